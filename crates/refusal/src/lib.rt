@@ -77,3 +77,10 @@ pub impl fmt::Display for Refusal as RefusalDisplay {
         f.write_str(self.sentence())
     }
 }
+
+/// A declined call that was brought something: why it was declined, and what was brought, unchanged.
+#[derive(Drop)]
+pub struct Declined<T> {
+    pub reason: Refusal,
+    pub brought: T,
+}

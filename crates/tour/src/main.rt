@@ -6,7 +6,10 @@ use std::io;
 fn main(rt: LibcRuntime) -> io::Result<()> {
     let starts = [0u32, 2, 3, 6, 7];
     let blocks = 2usize;
-    println!(rt, "4 rows with 7 entries, cut evenly into {blocks} blocks:")?;
+    println!(
+        rt,
+        "4 rows with 7 entries, cut evenly into {blocks} blocks:"
+    )?;
     let mut most = 0u32;
     let mut heaviest = 0usize;
     for block in 0..blocks {

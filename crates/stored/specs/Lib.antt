@@ -1,0 +1,2 @@
+pub mod Csr
+pub mod Judged
