@@ -1,5 +1,5 @@
 //! What blocks of rows cost: the interface that every cost meets, and its law.
-ghost use Prim.Native.Nat.{ℕ};
+ghost use Prim.Native.Nat.{ℕ, min};
 ghost use Rattle.cost.specs.Price.{Lawful, Price, asked};
 ghost use mathlib.Core.Path.{_≡_};
 
@@ -26,4 +26,12 @@ pub trait Cost {
         ensures value { λ r. ⌜ r ≡ asked (price (now (self .entry))) block from to ⌝ }
         ensures same { λ _. ⌜ price (now (self .exit)) ≡ price (now (self .entry)) ⌝ }
         ensures puts { λ _. ⌜ put (now (self .entry)) block from to (now (self .exit)) ⌝ };
+}
+
+/// The rows that a question is about, of so many: the last boundary is clipped to the rows, then the first row to that.
+pub fn clip(rows: u32, from: u32, to: u32) -> (u32, u32)
+    ensures { λ r. ⌜ r ≡ (min from (min to rows), min to rows) ⌝ }
+{
+    let to = to.min(rows);
+    (from.min(to), to)
 }

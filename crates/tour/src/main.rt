@@ -1,29 +1,138 @@
-//! A first walk: the rows of a small matrix, cut into even blocks, and the block with the most entries.
-use refusal::Refusal;
-use refusal::RefusalDisplay;
-use std::io;
+//! A tour: a small matrix is checked, damaged copies of it are refused, and an even cut of its rows is priced; then the
+//! same for a grid.
+mod even;
+mod show;
 
-fn main(rt: LibcRuntime) -> io::Result<()> {
-    let starts = [0u32, 2, 3, 6, 7];
-    let blocks = 2usize;
-    println!(
-        rt,
-        "4 rows with 7 entries, cut evenly into {blocks} blocks:"
-    )?;
-    let mut most = 0u32;
-    let mut heaviest = 0usize;
-    for block in 0..blocks {
-        let from = starts[block * 2];
-        let to = starts[block * 2 + 2];
-        let entries = to.saturating_sub(from);
-        println!(rt, "  block {block}: {entries} entries")?;
-        if entries > most {
-            most = entries;
-            heaviest = block;
+use grid::Grid;
+use grid::GridPattern;
+use refusal::Declined;
+use show::show_cut;
+use show::show_pattern;
+use show::show_verdict;
+use std::alloc::AllocError;
+use std::alloc::Global;
+use std::error::AnyError;
+use std::io;
+use stored::StoredPattern;
+use stored::Unchecked;
+
+/// A pattern as a caller brings it, copied from these lists.
+fn bring(
+    heap: Global,
+    width: u32,
+    starts: &[u32],
+    columns: &[u32],
+) -> Result<Unchecked, AllocError> {
+    let starts = Vec::from_slice(heap, starts)?;
+    let columns = Vec::from_slice(heap, columns)?;
+    Ok(Unchecked {
+        width,
+        starts,
+        columns,
+    })
+}
+
+/// Lets the lists of an unchecked pattern go.
+fn let_go(pattern: Unchecked) {
+    let Unchecked {
+        width: _,
+        starts,
+        columns,
+    } = pattern;
+    drop(starts);
+    drop(columns);
+}
+
+/// Says what the check finds wrong with these lists.
+fn try_damaged(
+    rt: &LibcRuntime,
+    what: &str,
+    starts: &[u32],
+    columns: &[u32],
+) -> Result<(), AnyError> {
+    let pattern = bring(rt.alloc(), 4, starts, columns)?;
+    let fault = pattern.fault();
+    let_go(pattern);
+    show_verdict(rt, what, fault)?;
+    Ok(())
+}
+
+/// The sample matrix, from its lists to the prices of its blocks.
+fn walk_sample(rt: &LibcRuntime) -> Result<(), AnyError> {
+    let sample = bring(rt.alloc(), 4, &[0, 2, 3, 6, 7], &[0, 1, 1, 0, 2, 3, 3])?;
+    match sample.check() {
+        Ok(pattern) => {
+            let shown = show_pattern(rt, "The sample matrix passes the check", &pattern);
+            let (pattern, priced) = show_cut(rt, pattern, 2);
+            let_go(pattern.into_unchecked());
+            shown?;
+            priced?;
+        }
+        Err(declined) => {
+            let Declined { reason, brought } = declined;
+            let_go(brought);
+            show_verdict(rt, "the sample matrix", Some(reason))?;
         }
     }
-    println!(rt, "block {heaviest} has the most, {most}")?;
-    let why = Refusal::Blocks;
-    let number = why.number();
-    println!(rt, "a cut into 0 blocks is declined: {number}, {why}")
+    Ok(())
+}
+
+/// A grid, from its sides to the prices of its blocks.
+fn walk_grid(rt: &LibcRuntime) -> io::Result<()> {
+    match Grid::new(3, 3) {
+        Ok(grid) => {
+            let shown = show_pattern(
+                rt,
+                "A grid, 3 wide and 3 high, with no stored columns",
+                &grid,
+            );
+            let (grid, priced) = show_cut(rt, grid, 3);
+            let _ = grid.into_sides();
+            shown?;
+            priced
+        }
+        Err(reason) => show_verdict(rt, "a grid of 3 by 3", Some(reason)),
+    }
+}
+
+/// Says whether a grid with these sides is refused.
+fn try_sides(rt: &LibcRuntime, what: &str, width: u32, height: u32) -> io::Result<()> {
+    let fault = match Grid::new(width, height) {
+        Ok(grid) => {
+            let _ = grid.into_sides();
+            None
+        }
+        Err(reason) => Some(reason),
+    };
+    show_verdict(rt, what, fault)
+}
+
+fn main(rt: LibcRuntime) -> Result<(), AnyError> {
+    walk_sample(&rt)?;
+    println!(rt, "Damaged copies of it:")?;
+    try_damaged(
+        &rt,
+        "the third start is below the second",
+        &[0, 3, 2, 6, 7],
+        &[0, 1, 1, 0, 2, 3, 3],
+    )?;
+    try_damaged(
+        &rt,
+        "the last column is 4, of 4 columns",
+        &[0, 2, 3, 6, 7],
+        &[0, 1, 1, 0, 2, 3, 4],
+    )?;
+    try_damaged(
+        &rt,
+        "row 2 names column 2 twice",
+        &[0, 2, 3, 6, 7],
+        &[0, 1, 1, 0, 2, 2, 3],
+    )?;
+    println!(rt)?;
+    walk_grid(&rt)?;
+    println!(rt, "Other grids:")?;
+    try_sides(&rt, "0 wide and 3 high", 0, 3)?;
+    try_sides(&rt, "1,000 wide and 1,001 high", 1_000, 1_001)?;
+    try_sides(&rt, "1,000 wide and 1,000 high", 1_000, 1_000)?;
+    Ok(())
 }
