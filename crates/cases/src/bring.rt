@@ -1,36 +1,10 @@
 //! Patterns made for the tests, and let go again.
 use grid::Grid;
-use refusal::Declined;
 use refusal::Refusal;
 use std::alloc::AllocError;
 use std::alloc::Global;
 use stored::Stored;
 use stored::Unchecked;
-
-pub fn bring(
-    heap: Global,
-    width: u32,
-    starts: &[u32],
-    columns: &[u32],
-) -> Result<Unchecked, AllocError> {
-    let starts = Vec::from_slice(heap, starts)?;
-    let columns = Vec::from_slice(heap, columns)?;
-    Ok(Unchecked {
-        width,
-        starts,
-        columns,
-    })
-}
-
-pub fn let_go(pattern: Unchecked) {
-    let Unchecked {
-        width: _,
-        starts,
-        columns,
-    } = pattern;
-    drop(starts);
-    drop(columns);
-}
 
 /// What the check says of these lists.
 pub fn fault(
@@ -39,10 +13,7 @@ pub fn fault(
     starts: &[u32],
     columns: &[u32],
 ) -> Result<Option<Refusal>, AllocError> {
-    let pattern = bring(heap, width, starts, columns)?;
-    let fault = pattern.fault();
-    let_go(pattern);
-    Ok(fault)
+    Ok(Unchecked::copied(heap, width, starts, columns)?.fault())
 }
 
 /// The checked pattern of these lists, if they pass.
@@ -52,13 +23,9 @@ pub fn stored(
     starts: &[u32],
     columns: &[u32],
 ) -> Result<Option<Stored>, AllocError> {
-    match bring(heap, width, starts, columns)?.check() {
+    match Unchecked::copied(heap, width, starts, columns)?.check() {
         Ok(pattern) => Ok(Some(pattern)),
-        Err(declined) => {
-            let Declined { reason: _, brought } = declined;
-            let_go(brought);
-            Ok(None)
-        }
+        Err(_) => Ok(None),
     }
 }
 

@@ -1,7 +1,5 @@
 //! Stored patterns: the sample matrix, the smallest, the limits, and every rule that the check knows.
-use super::bring::bring;
 use super::bring::fault;
-use super::bring::let_go;
 use super::bring::sample;
 use super::bring::stored;
 use pattern::Pattern;
@@ -14,6 +12,7 @@ use std::alloc::Global;
 use std::test::*;
 use stored::Stored;
 use stored::StoredPattern;
+use stored::Unchecked;
 
 /// The answers of a pattern to all questions about rows 0 to 4, places 0 to 3 and runs of rows.
 fn answers(heap: Global, pattern: &Stored) -> Result<Vec<u32>, AllocError> {
@@ -43,7 +42,7 @@ fn sample_matrix(rt: LibcRuntime) -> Result<(), Fail> {
         pattern.entries_between(2, 9),
         pattern.entries_between(7, 9),
     ];
-    let_go(pattern.into_unchecked());
+    drop(pattern.into_unchecked());
     let expected: [u32; 27] = [
         4,
         4,
@@ -94,7 +93,7 @@ fn no_rows_and_no_columns(rt: LibcRuntime) -> Result<(), Fail> {
         pattern.column(0, 0),
         pattern.entries_between(0, 1),
     ];
-    let_go(pattern.into_unchecked());
+    drop(pattern.into_unchecked());
     check_eq(said, [0, 3, 0, 3, 0])
 }
 
@@ -183,9 +182,9 @@ fn most_entries(rt: LibcRuntime) -> Result<(), Fail> {
 #[test]
 fn refused_lists_come_back(rt: LibcRuntime) -> Result<(), Fail> {
     let heap = rt.alloc();
-    match bring(heap, 5, &[0, 2, 3], &[0, 5, 1])?.check() {
+    match Unchecked::copied(heap, 5, &[0, 2, 3], &[0, 5, 1])?.check() {
         Ok(pattern) => {
-            let_go(pattern.into_unchecked());
+            drop(pattern.into_unchecked());
             Err(Fail::new("a column out of range was accepted"))
         }
         Err(declined) => {
@@ -193,7 +192,6 @@ fn refused_lists_come_back(rt: LibcRuntime) -> Result<(), Fail> {
             let width = brought.width;
             let starts = brought.starts.as_slice() == [0u32, 2, 3].as_slice();
             let columns = brought.columns.as_slice() == [0u32, 5, 1].as_slice();
-            let_go(brought);
             check_eq(reason, Refusal::Column)?;
             check(width == 5 && starts && columns)
         }

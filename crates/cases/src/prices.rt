@@ -1,5 +1,4 @@
 //! Work over the sample matrix.
-use super::bring::let_go;
 use super::bring::sample;
 use cost::Cost;
 use pricing::Work;
@@ -28,12 +27,12 @@ fn work(heap: Global, row: u32, entry: u32) -> Result<Result<[u64; 7], Refusal>,
                 work.figure(0, 2, 4_294_967_295),
                 work.row_count() as u64,
             ];
-            let_go(work.into_pattern().into_unchecked());
+            drop(work.into_pattern().into_unchecked());
             Ok(Ok(figures))
         }
         Err(declined) => {
             let Declined { reason, brought } = declined;
-            let_go(brought.into_unchecked());
+            drop(brought.into_unchecked());
             Ok(Err(reason))
         }
     }

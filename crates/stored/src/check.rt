@@ -2,6 +2,7 @@ ghost use Prim.Native.Nat.{ℕ, _+_, _<_, _≤_};
 ghost use Rattle.pattern.specs.Sparsity.{Ordered, RowOrdered};
 ghost use Rattle.std.specs.Of.Vec.{vec-items};
 ghost use Rattle.std.specs.Orderings.{When};
+ghost use Rattle.std.specs.Vec.{made};
 ghost use Rattle.std.specs.declared.option.Option.the-variants.{Some, None};
 ghost use Rattle.std.specs.declared.result.Result.the-variants.{Ok, Err};
 ghost use Rattle.stored.specs.Csr.{Climbing, Framed, Shaped, Sized, csr};
@@ -12,6 +13,8 @@ use super::lists::Stored;
 use super::lists::Unchecked;
 use refusal::Declined;
 use refusal::Refusal;
+use std::alloc::AllocError;
+use std::alloc::Global;
 
 /// Whether the sizes are within the limits.
 fn sizes_fit(width: u32, starts: &[u32], columns: &[u32]) -> bool
@@ -80,6 +83,24 @@ fn rows_ordered(width: u32, starts: &[u32], columns: &[u32]) -> bool
 }
 
 impl Unchecked {
+    /// A pattern over copies of these lists. Only want of memory is an error.
+    pub fn copied(
+        heap: Global,
+        width: u32,
+        starts: &[u32],
+        columns: &[u32],
+    ) -> Result<Unchecked, AllocError>
+        ensures { λ r. ⌜ made r (λ u. (u .width ≡ width) × (vec-items (u .starts) ≡ now (starts .entry)) × (vec-items (u .columns) ≡ now (columns .entry))) ⌝ }
+    {
+        let starts = Vec::from_slice(heap, starts)?;
+        let columns = Vec::from_slice(heap, columns)?;
+        Ok(Unchecked {
+            width,
+            starts,
+            columns,
+        })
+    }
+
     /// What the check would refuse this pattern for, if anything.
     pub fn fault(&self) -> Option<Refusal>
         ensures { λ r. ⌜ JudgedOf (now (self .entry)) r ⌝ }

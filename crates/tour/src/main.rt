@@ -5,43 +5,13 @@ mod show;
 
 use grid::Grid;
 use grid::GridPattern;
-use refusal::Declined;
 use show::show_cut;
 use show::show_pattern;
 use show::show_verdict;
-use std::alloc::AllocError;
-use std::alloc::Global;
 use std::error::AnyError;
 use std::io;
 use stored::StoredPattern;
 use stored::Unchecked;
-
-/// A pattern as a caller brings it, copied from these lists.
-fn bring(
-    heap: Global,
-    width: u32,
-    starts: &[u32],
-    columns: &[u32],
-) -> Result<Unchecked, AllocError> {
-    let starts = Vec::from_slice(heap, starts)?;
-    let columns = Vec::from_slice(heap, columns)?;
-    Ok(Unchecked {
-        width,
-        starts,
-        columns,
-    })
-}
-
-/// Lets the lists of an unchecked pattern go.
-fn let_go(pattern: Unchecked) {
-    let Unchecked {
-        width: _,
-        starts,
-        columns,
-    } = pattern;
-    drop(starts);
-    drop(columns);
-}
 
 /// Says what the check finds wrong with these lists.
 fn try_damaged(
@@ -50,28 +20,24 @@ fn try_damaged(
     starts: &[u32],
     columns: &[u32],
 ) -> Result<(), AnyError> {
-    let pattern = bring(rt.alloc(), 4, starts, columns)?;
-    let fault = pattern.fault();
-    let_go(pattern);
-    show_verdict(rt, what, fault)?;
+    let pattern = Unchecked::copied(rt.alloc(), 4, starts, columns)?;
+    show_verdict(rt, what, pattern.fault())?;
     Ok(())
 }
 
 /// The sample matrix, from its lists to the prices of its blocks.
 fn walk_sample(rt: &LibcRuntime) -> Result<(), AnyError> {
-    let sample = bring(rt.alloc(), 4, &[0, 2, 3, 6, 7], &[0, 1, 1, 0, 2, 3, 3])?;
+    let sample = Unchecked::copied(rt.alloc(), 4, &[0, 2, 3, 6, 7], &[0, 1, 1, 0, 2, 3, 3])?;
     match sample.check() {
         Ok(pattern) => {
             let shown = show_pattern(rt, "The sample matrix passes the check", &pattern);
             let (pattern, priced) = show_cut(rt, pattern, 2);
-            let_go(pattern.into_unchecked());
+            drop(pattern.into_unchecked());
             shown?;
             priced?;
         }
         Err(declined) => {
-            let Declined { reason, brought } = declined;
-            let_go(brought);
-            show_verdict(rt, "the sample matrix", Some(reason))?;
+            show_verdict(rt, "the sample matrix", Some(declined.reason))?;
         }
     }
     Ok(())
