@@ -1,1 +1,2 @@
 pub mod Sparsity
+pub mod Columns

@@ -1,4 +1,5 @@
 ghost use Prim.Native.Nat.{_+_, _-_, _<_, _≤_};
+ghost use Rattle.pattern.specs.Sparsity.{rowAt};
 ghost use Rattle.stored.specs.Csr.{Climbing};
 ghost use Rattle.stored.specs.Judged.{sparsityOf};
 ghost use lib.ListN.{getD, length};
@@ -40,6 +41,23 @@ fn entries_from(starts: &[u32], from: usize, to: usize) -> u32
     ensures { λ r. ⌜ r ≡ getD (now (starts .entry)) to 0 - getD (now (starts .entry)) from 0 ⌝ }
 {
     starts[to] - starts[from]
+}
+
+impl Stored {
+    /// The columns of a row, in one piece; none from the number of rows on.
+    pub fn row(&self, row: u32) -> &[u32]
+        ensures { λ r. ⌜ now r ≡ rowAt (sparsityOf (now (self .entry))) row ⌝ }
+    {
+        let starts = self.starts.as_slice();
+        let columns = self.columns.as_slice();
+        let row = row as usize;
+        if row >= starts.len() - 1 {
+            return &columns[0..0];
+        }
+        let from = starts[row] as usize;
+        let to = starts[row + 1] as usize;
+        &columns[from..to]
+    }
 }
 
 pub impl Pattern for Stored as StoredPattern {
