@@ -1,6 +1,8 @@
 ghost use Prim.Native.Nat.{_≤_};
-ghost use Rattle.marks.specs.Meanings.{markedSparsity};
+ghost use Rattle.marks.specs.Meanings.{Square, markedSparsity};
 ghost use Rattle.marks.specs.Seen.{SameMarks, covered};
+ghost use Rattle.pattern.specs.Sparsity.{entriesBetween, rowCount};
+ghost use Rattle.std.specs.Orderings.{When};
 ghost use Rattle.std.specs.Results.{isOk};
 ghost use Rattle.std.specs.declared.result.Result.the-variants.{Ok, Err};
 ghost use mathlib.Core.Bool.{true};
@@ -38,6 +40,34 @@ impl<P: Pattern> Marked<P> {
         ensures { λ r. ⌜ now r ≡ now (self .entry) .pattern ⌝ }
     {
         &self.pattern
+    }
+
+    /// How many rows the pattern has.
+    pub fn row_count(&self) -> u32
+        ensures { λ r. ⌜ r ≡ rowCount (markedSparsity sparsity (now (self .entry))) ⌝ }
+    {
+        self.pattern.row_count()
+    }
+
+    /// How many columns the pattern has.
+    pub fn column_count(&self) -> u32
+        ensures { λ r. ⌜ r ≡ now (self .entry) .width ⌝ }
+    {
+        self.width
+    }
+
+    /// How many entries the rows from `from` up to, not including, `to` have.
+    pub fn entries_between(&self, from: u32, to: u32) -> u32
+        ensures { λ r. ⌜ r ≡ entriesBetween (markedSparsity sparsity (now (self .entry))) from to ⌝ }
+    {
+        self.pattern.entries_between(from, to)
+    }
+
+    /// Whether there are as many columns as rows.
+    pub fn is_square(&self) -> bool
+        ensures { λ r. ⌜ When r (Square (markedSparsity sparsity (now (self .entry)))) (Square (markedSparsity sparsity (now (self .entry))) → ⊥) ⌝ }
+    {
+        self.pattern.row_count() == self.width
     }
 
     /// The pattern and the marks, which serve other patterns as well.

@@ -11,7 +11,7 @@ work-requires g c κs =
     let law = g .P·Pattern·met .lawful (w .pattern) in
     let to : c .clip-from .result .1 ≤ 1000000 = omega (arith, law .height, ap (λ x. x .1) (c .clip-from .ensures)) in
     rw (c .entries-between-entries .ensures)
-    (work-few (w .«row_weight») (w .«entry_weight») (g .P·Pattern .sparsity (w .pattern)) (w .fit) law
+    (work-few (w .«row_weight») (w .«entry_weight») (g .P·Pattern .sparsity (w .pattern)) (w .fit) (law .height) (law .entries)
     (c .clip-from .result .0) (c .clip-from .result .1) (omega arith))
 
 pub returns : need.returns

@@ -1,0 +1,3 @@
+pub mod Combined
+pub mod Meanings
+pub mod Questions
