@@ -1,9 +1,13 @@
 //! Patterns made for the tests, and let go again.
 use grid::Grid;
+use marks::Marked;
+use marks::Marks;
+use marks::Unmarked;
 use refusal::Refusal;
 use std::alloc::AllocError;
 use std::alloc::Global;
 use stored::Stored;
+use stored::StoredPattern;
 use stored::Unchecked;
 
 /// What the check says of these lists.
@@ -43,4 +47,31 @@ pub fn sides_fault(width: u32, height: u32) -> Option<Refusal> {
         }
         Err(reason) => Some(reason),
     }
+}
+
+/// The sample matrix with marks.
+pub fn marked_sample(heap: Global) -> Result<Option<Marked<Stored>>, AllocError> {
+    let Some(pattern) = sample(heap)? else {
+        return Ok(None);
+    };
+    match Marked::new(pattern, Marks::new(heap)) {
+        Ok(marked) => Ok(Some(marked)),
+        Err(unmarked) => {
+            let Unmarked {
+                error,
+                pattern,
+                marks,
+            } = unmarked;
+            drop(pattern.into_unchecked());
+            drop(marks);
+            Err(error)
+        }
+    }
+}
+
+/// Lets a pattern and its marks go.
+pub fn end(marked: Marked<Stored>) {
+    let (pattern, marks) = marked.into_parts();
+    drop(pattern.into_unchecked());
+    drop(marks);
 }

@@ -2,6 +2,10 @@
 //! that is taken and the first that is declined, and a pattern written by a stranger.
 #[cfg(test)]
 mod bring;
+#[cfg(test)]
+mod columns;
+#[cfg(test)]
+mod combined;
 pub mod diagonal;
 #[cfg(test)]
 mod grids;

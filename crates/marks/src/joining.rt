@@ -67,7 +67,7 @@ impl<P: Pattern> Marked<P> {
     pub fn is_square(&self) -> bool
         ensures { λ r. ⌜ When r (Square (markedSparsity sparsity (now (self .entry)))) (Square (markedSparsity sparsity (now (self .entry))) → ⊥) ⌝ }
     {
-        self.pattern.row_count() == self.width
+        self.row_count() == self.column_count()
     }
 
     /// The pattern and the marks, which serve other patterns as well.

@@ -142,3 +142,24 @@ module _ (n : ℕ) (starts columns : List ℕ) (f : Framed starts columns) (up :
 
   pub column-at : place < r → getD columns (getD starts i 0 + place) 0 ≡ columnAt (csr n starts columns) i place
   column-at h = column-is n starts columns f up i place (there h) (omega (arith, within (there h)))
+
+-- where any row stands among the columns, from what its two starts say
+module _ (n : ℕ) (starts columns : List ℕ) (f : Framed starts columns) (up : Climbing starts) (i : ℕ) (r : ℕ × ℕ)
+    (within : i + 1 < length starts → r ≡ (getD starts i 0, getD starts (i + 1) 0)) (past : length starts ≤ i + 1 → r ≡ (0, 0)) where
+  pub bounds-order : r .0 ≤ r .1
+  bounds-order = ⊎-elim
+      (λ l. rw (within l) (up i l))
+      (λ l. rw (past l) (le-refl 0))
+      (cases-lt (i + 1) (length starts))
+
+  pub bounds-end : r .1 ≤ length columns
+  bounds-end = ⊎-elim
+      (λ l. rw (within l) (start-le n starts columns f up (i + 1) l))
+      (λ l. rw (past l) (omega arith))
+      (cases-lt (i + 1) (length starts))
+
+  pub bounds-row : between (r .0) (r .1) columns ≡ rowAt (csr n starts columns) i
+  bounds-row = ⊎-elim
+      (λ l. rw (within l) (sym (row-is n starts columns i l)))
+      (λ l. rw (past l) (sym (row-past n starts columns i l)))
+      (cases-lt (i + 1) (length starts))

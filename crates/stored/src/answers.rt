@@ -27,6 +27,17 @@ fn entries_in(starts: &[u32], row: usize) -> u32
     starts[row + 1] - starts[row]
 }
 
+/// Where one row stands among the columns: its start, and the next one.
+fn row_bounds(starts: &[u32], row: usize) -> (u32, u32)
+    ensures within { λ r. ⌜ (row + 1 < length (now (starts .entry)) → r ≡ (getD (now (starts .entry)) row 0, getD (now (starts .entry)) (row + 1) 0)) ⌝ }
+    ensures past { λ r. ⌜ (length (now (starts .entry)) ≤ row + 1 → r ≡ (0, 0)) ⌝ }
+{
+    if row >= starts.len() || starts.len() - row < 2 {
+        return (0, 0);
+    }
+    (starts[row], starts[row + 1])
+}
+
 /// The column at a place from a row's start on.
 fn column_from(columns: &[u32], start: u32, place: u32) -> u32
     requires { ⌜ start + place < length (now columns) ⌝ }
@@ -48,15 +59,9 @@ impl Stored {
     pub fn row(&self, row: u32) -> &[u32]
         ensures { λ r. ⌜ now r ≡ rowAt (sparsityOf (now (self .entry))) row ⌝ }
     {
-        let starts = self.starts.as_slice();
         let columns = self.columns.as_slice();
-        let row = row as usize;
-        if row >= starts.len() - 1 {
-            return &columns[0..0];
-        }
-        let from = starts[row] as usize;
-        let to = starts[row + 1] as usize;
-        &columns[from..to]
+        let (from, to) = row_bounds(self.starts.as_slice(), row as usize);
+        &columns[from as usize..to as usize]
     }
 }
 
