@@ -1,8 +1,10 @@
-//! A tour: a small matrix is checked, damaged copies of it are refused, and an even cut of its rows is priced; then the
-//! same for a grid.
+//! A tour: a small matrix is checked, an even cut of its rows is priced by each cost, and damaged copies of it are
+//! refused; then a grid.
+mod costs;
 mod even;
 mod show;
 
+use costs::walk_costs;
 use grid::Grid;
 use grid::GridPattern;
 use show::show_cut;
@@ -75,6 +77,7 @@ fn try_sides(rt: &LibcRuntime, what: &str, width: u32, height: u32) -> io::Resul
 
 fn main(rt: LibcRuntime) -> Result<(), AnyError> {
     walk_sample(&rt)?;
+    walk_costs(&rt)?;
     println!(rt, "Damaged copies of it:")?;
     try_damaged(
         &rt,
