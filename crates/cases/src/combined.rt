@@ -173,8 +173,8 @@ fn combinations() -> Result<(), Fail> {
     check_eq(combined(5, 4, 7)?, Err(Refusal::Unequal))
 }
 
-/// What a barred block and a free one come to in a sum.
-fn barred_sum() -> Result<u64, Fail> {
+/// What a barred block and a free one at so much a row come to in a sum.
+fn barred_sum(weight: u32) -> Result<u64, Fail> {
     let measure = rows(2, 1)?;
     let base = match rows(2, 1) {
         Ok(base) => base,
@@ -183,7 +183,7 @@ fn barred_sum() -> Result<u64, Fail> {
             return Err(fail);
         }
     };
-    let third = match rows(2, 1) {
+    let third = match rows(2, weight) {
         Ok(third) => third,
         Err(fail) => {
             end(measure);
@@ -224,5 +224,7 @@ fn barred_sum() -> Result<u64, Fail> {
 
 #[test]
 fn sums_stop() -> Result<(), Fail> {
-    check_eq(barred_sum()?, MOST)
+    check_eq(barred_sum(0)?, MOST)?;
+    check_eq(barred_sum(1)?, MOST)?;
+    check_eq(barred_sum(1_000_000)?, MOST)
 }
