@@ -61,7 +61,8 @@ fn marked(heap: Global) -> Result<Marked<Stored>, AnyError> {
     }
 }
 
-fn end_marked(marked: Marked<Stored>) {
+/// Lets a pattern and its marks go.
+pub fn end_marked(marked: Marked<Stored>) {
     let (pattern, marks) = marked.into_parts();
     drop(pattern.into_unchecked());
     drop(marks);
@@ -83,7 +84,8 @@ fn end_entries(work: Work<Stored>) {
     drop(work.into_pattern().into_unchecked());
 }
 
-fn scanned(heap: Global) -> Result<Scanned<Stored>, AnyError> {
+/// The scanned cost of the sample matrix.
+pub fn scanned(heap: Global) -> Result<Scanned<Stored>, AnyError> {
     match Scanned::new(marked(heap)?, WEIGHTS) {
         Ok(cost) => Ok(cost),
         Err(declined) => {

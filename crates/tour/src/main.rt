@@ -1,12 +1,14 @@
-//! A tour: a small matrix is checked, an even cut of its rows is priced by each cost, and damaged copies of it are
-//! refused; then a grid.
+//! A tour: a small matrix is checked, an even cut of its rows is priced by each cost, the cheapest cut is searched for, and
+//! damaged copies of the matrix are refused; then a grid.
 mod costs;
 mod even;
+mod searching;
 mod show;
 
 use costs::walk_costs;
 use grid::Grid;
 use grid::GridPattern;
+use searching::walk_searches;
 use show::show_cut;
 use show::show_pattern;
 use show::show_verdict;
@@ -78,6 +80,7 @@ fn try_sides(rt: &LibcRuntime, what: &str, width: u32, height: u32) -> io::Resul
 fn main(rt: LibcRuntime) -> Result<(), AnyError> {
     walk_sample(&rt)?;
     walk_costs(&rt)?;
+    walk_searches(&rt)?;
     println!(rt, "Damaged copies of it:")?;
     try_damaged(
         &rt,

@@ -5,6 +5,7 @@ use Prim.Native.Nat.{ℕ, _^_}
 use Rattle.combine.specs.Combined.{greaterPrice, limitPrice, sumPrice, timesPrice}
 use Rattle.pattern.specs.Columns.{columnsAndRows, distinctColumns}
 use Rattle.pricing.specs.Columns.{footprintPrice, nonlocalPrice}
+use Rattle.worked.specs.Searched.{Searched}
 use Rattle.worked.specs.Sample.{corner, entriesSample, nonlocalSample, sample, scannedSample}
 
 -- the rows that the row starts and the columns stand for
@@ -53,3 +54,4 @@ pub record Cases : Type 0 where
   pub footprint : Footprint
   pub nonlocal : Nonlocal
   pub combined : Combined
+  pub searched : Searched

@@ -1,0 +1,12 @@
+pub mod Widths
+pub mod Trailing
+pub mod Halves
+pub mod Trials
+pub mod Greedy
+pub mod Sounds
+pub mod Every
+pub mod Sanes
+pub mod Along
+pub mod Tries
+pub mod Whole
+pub mod Under

@@ -1,0 +1,14 @@
+pub mod Cuts
+pub mod Digits
+pub mod Trails
+pub mod Halving
+pub mod Trial
+pub mod Sane
+pub mod States
+pub mod Play
+pub mod Reports
+pub mod Answers
+pub mod Law
+pub mod Of
+pub mod Runs
+pub mod Compared

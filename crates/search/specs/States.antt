@@ -1,0 +1,9 @@
+-- The number of each state of a search.
+use Prim.Native.Nat.{ℕ}
+use Rattle.search.specs.declared.report.State.{State}
+use Rattle.search.specs.declared.report.State.the-variants.{Open, Settled, Missing}
+
+abbrev pub stateNumber : State → ℕ
+stateNumber Open = 1
+stateNumber Settled = 2
+stateNumber Missing = 3
