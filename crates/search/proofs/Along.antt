@@ -1,17 +1,17 @@
 -- A run goes on by one call.
 use mathlib.Core.Path.{_≡_, refl, sym, ap, subst, _∙_}
-use mathlib.Core.Bool.{Bool, true, false, cond, _&&_}
+use mathlib.Core.Bool.{true, false, _&&_}
 use mathlib.Core.Logic.{⊎-elim}
 use mathlib.Core.List.{List, [], _∷_, _++_}
-use Prim.Native.Nat.{ℕ, zero, suc, _+_, _-_, _≤_, _<_}
+use Prim.Native.Nat.{ℕ, zero, suc, _+_, _-_, _<_}
 use native.Mathlib.Omega.{arith}
-use lib.Dec.{leb, ltb}
-use Rattle.std.proofs.shelf.Tests.{cond-true, cond-false, lt-ltb, le-ltb, ltb-false, and-cases}
-use Rattle.cost.specs.Price.{Price, Lawful}
+use lib.Dec.{ltb}
+use Rattle.std.proofs.shelf.Tests.{cond-true, cond-false, lt-ltb, ltb-false, and-cases, cases-bool}
+use Rattle.cost.specs.Price.{Price}
 use Rattle.search.specs.declared.search.Search.{Search}
 use Rattle.search.specs.declared.call.Call.{Call}
 use Rattle.search.specs.declared.call.Call.the-variants.{Advance, Try, Take, Tell}
-use Rattle.search.specs.Trails.{Question, Trail}
+use Rattle.search.specs.Trails.{Trail}
 use Rattle.search.specs.Play.{View, start, trialAt, tried, halfway, advanced, advanceAsks, advanceOk, tryMakes, step, callAsks, plays, play}
 use Rattle.search.specs.Of.{viewOf, Ran, Follows}
 use Rattle.search.proofs.Trailing.{trail-none}
@@ -131,3 +131,28 @@ advanced-stop p K (suc n) s h =
     (λ z. absurd (let l = ltb-false 0 (suc n) z in omega arith))
     (λ z. (cond-false _ _ _ z, cond-false _ _ _ z))
     (and-cases (ltb 0 (suc n)) (ltb (s .floor) (s .figure)) h)
+
+-- an advance by i + j is one by i and then one by j
+module _ (p : Price) (K : ℕ) where
+  advanced-none : (s : View) → advanced p K zero s ≡ s
+  unfolding advanced
+  advanced-none s = refl
+
+  advanced-open : (n : ℕ) (s : View) → ltb (s .floor) (s .figure) ≡ true → advanced p K (suc n) s ≡ advanced p K n (tried p K (halfway s) true s)
+  unfolding advanced
+  advanced-open n s h = cond-true _ _ _ h
+
+  advanced-shut : (n : ℕ) (s : View) → ltb (s .floor) (s .figure) ≡ false → advanced p K n s ≡ s
+  unfolding advanced
+  advanced-shut zero s h = refl
+  advanced-shut (suc n) s h = cond-false _ _ _ h
+
+  pub splits : (s : View) (i j : ℕ) → advanced p K (i + j) s ≡ advanced p K j (advanced p K i s)
+  splits s zero j = (let e : zero + j ≡ j = omega arith in ap (λ n. advanced p K n s) e) ∙ ap (advanced p K j) (sym (advanced-none s))
+  splits s (suc i) j =
+      let e : suc i + j ≡ suc (i + j) = omega arith in
+      ap (λ n. advanced p K n s) e
+      ∙ ⊎-elim
+      (λ h. advanced-open (i + j) s h ∙ splits (tried p K (halfway s) true s) i j ∙ ap (advanced p K j) (sym (advanced-open i s h)))
+      (λ h. advanced-shut (suc (i + j)) s h ∙ sym (ap (advanced p K j) (advanced-shut (suc i) s h) ∙ advanced-shut j s h))
+      (cases-bool (ltb (s .floor) (s .figure)))

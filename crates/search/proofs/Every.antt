@@ -1,15 +1,15 @@
 -- The theorem on every run.
 use mathlib.Core.Path.{_≡_, refl, sym, ap, subst, _∙_}
 use mathlib.Core.Bool.{Bool, true, false, cond, _&&_}
-use mathlib.Core.Logic.{_⊎_, inl, inr, ⊎-elim}
-use mathlib.Core.List.{List, [], _∷_, _++_}
-use Prim.Native.Nat.{ℕ, zero, suc, max, _+_, _-_, _*_, _/_, _^_, _≤_, _<_}
+use mathlib.Core.Logic.{⊎-elim}
+use mathlib.Core.List.{List, [], _∷_}
+use Prim.Native.Nat.{ℕ, zero, suc, max, _+_, _-_, _*_, _^_, _≤_, _<_}
 use native.Mathlib.Nat.{mul-le-mul, mul-le-mul-right}
 use native.Mathlib.Omega.{arith}
-use lib.Dec.{eqb, leb, ltb}
-use lib.Pow.{pow-pos, pow-mono}
+use lib.Dec.{leb, ltb}
+use lib.Pow.{pow-mono}
 use lib.ListN.{length, getD}
-use Rattle.std.proofs.shelf.Tests.{cases-lt, cases-bool, cond-true, cond-false, cond-both, true≢false, and-parts, lt-ltb, le-ltb, ltb-true, ltb-false, leb-true, both-ways}
+use Rattle.std.proofs.shelf.Tests.{cases-lt, cases-bool, cond-true, cond-false, and-parts, lt-ltb, le-ltb, ltb-true, leb-true}
 use Rattle.std.proofs.shelf.Lists.{same-lists, getD-default}
 use Rattle.search.specs.declared.report.State.{State}
 use Rattle.search.specs.declared.report.State.the-variants.{Open, Settled, Missing}
@@ -19,14 +19,14 @@ use Rattle.search.specs.declared.call.Call.the-variants.{Advance, Try, Take, T
 use Rattle.cost.specs.Price.{Price, Lawful}
 use Rattle.search.specs.Digits.{digits}
 use Rattle.search.specs.Cuts.{Cut, costTo, costOf, Latest}
-use Rattle.search.specs.Play.{View, start, tried, halfway, advanced, advanceOk, tryMakes, step, plays, play}
+use Rattle.search.specs.Play.{View, start, tried, advanced, advanceOk, tryMakes, step, plays, play}
 use Rattle.std.specs.declared.option.Option.{Option}
 use Rattle.std.specs.declared.option.Option.the-variants.{Some, None}
 use Rattle.search.specs.Reports.{stateOf, reportOf}
 use Rattle.search.specs.Law.{askedFor, SameFigures, NoCut, standing, Cheapest, Law, Agree}
 use Rattle.search.proofs.Widths.{below-digits, digits-least}
 use Rattle.search.proofs.Greedy.{rise}
-use Rattle.search.proofs.Sounds.{Standing, Sound, sound-start, sound-tried, tried-advances, Ran, advanced-ran, advanced-done}
+use Rattle.search.proofs.Sounds.{Sound, sound-start, sound-tried, tried-advances, advanced-ran, advanced-done}
 
 module _ (p : Price) (lawful : Lawful p) (K C : ℕ) (small : K < 2 ^ 32) where
   -- a search that is still open has made the trials that it was asked for

@@ -1,9 +1,9 @@
 -- The boundaries of a trial at c are the latest of all cuts within c.
 use mathlib.Core.Path.{_≡_, refl, sym, ap, subst, _∙_}
-use mathlib.Core.Bool.{Bool, true, false, cond, _&&_}
-use mathlib.Core.Logic.{_⊎_, inl, inr, ⊎-elim}
+use mathlib.Core.Bool.{true, false}
+use mathlib.Core.Logic.{inl, inr, ⊎-elim}
 use mathlib.Core.List.{List, [], _∷_, _++_}
-use Prim.Native.Nat.{ℕ, zero, suc, max, _+_, _-_, _*_, _^_, _≤_, _<_}
+use Prim.Native.Nat.{ℕ, zero, suc, max, _+_, _*_, _^_, _≤_, _<_}
 use native.Mathlib.Nat.{add-mul}
 use native.Mathlib.Omega.{arith}
 use native.Mathlib.Numerals.{add-one}
@@ -16,7 +16,7 @@ use Rattle.std.specs.declared.result.Result.the-variants.{Ok, Err}
 use Rattle.cost.specs.Price.{Price, Lawful}
 use Rattle.search.specs.Digits.{digits}
 use Rattle.search.specs.Halving.{halvingAsks, halvingRow, Furthest}
-use Rattle.search.specs.Cuts.{Cut, costTo, costOf, Latest}
+use Rattle.search.specs.Cuts.{Cut, costTo, costOf}
 use Rattle.search.specs.Trial.{Trial, goesOn, fails, block, trialTo, succeeds, outcome, LatestWithin, TrialLaw}
 use Rattle.search.proofs.Halves.{halved-so}
 use Rattle.search.proofs.Trials.{trial-first, trial-next, trial-stays}

@@ -1,9 +1,8 @@
 -- What a halving comes to.
 use mathlib.Core.Path.{_≡_, refl, sym, ap, subst, _∙_}
-use mathlib.Core.Bool.{Bool, true, false, cond}
-use mathlib.Core.Logic.{_⊎_, inl, inr, ⊎-elim}
+use mathlib.Core.Logic.{inr, ⊎-elim}
 use mathlib.Core.List.{List, [], _∷_}
-use Prim.Native.Nat.{ℕ, zero, suc, min, max, _+_, _-_, _*_, _/_, _^_, _≤_, _<_}
+use Prim.Native.Nat.{ℕ, zero, suc, min, max, _+_, _-_, _*_, _^_, _≤_, _<_}
 use native.Mathlib.Nat.{pow-succ'}
 use native.Mathlib.Omega.{arith}
 use lib.Dec.{leb, ltb}
@@ -162,23 +161,27 @@ module _ (p : Price) (lawful : Lawful p) (k s first high c : ℕ) (fits : k < 2 
                 ∙ now .row;
           }
 
-      -- one question at m, answered with w
-      module _ (m w granted refused : ℕ) (e : m ≡ middle low past) (figs : Figures p k s first high low past granted refused) where
-        pub turn-grant : w ≡ p .figure k s m → w ≤ c → Going p k s first high c (m + 1) past (n + 1) × Figures p k s first high (m + 1) past w refused × (halves p k s c (digits (high + 1) - n) low past ≡ (k, s, m) ∷ halves p k s c (digits (high + 1) - (n + 1)) (m + 1) past)
-        turn-grant v l =
+      -- one question at m, answered with w, the last of n'
+      module _ (m w n' granted refused : ℕ) (e : m ≡ middle low past) (en : n' ≡ n + 1) (figs : Figures p k s first high low past granted refused) where
+        pub turn-grant : (x : ℕ) → x ≡ m + 1 → w ≡ p .figure k s m → w ≤ c → Going p k s first high c x past n' × Figures p k s first high x past w refused × (halves p k s c (digits (high + 1) - n) low past ≡ (k, s, m) ∷ halves p k s c (digits (high + 1) - n') x past)
+        turn-grant x ex v l =
             let g : p .figure k s (middle low past) ≤ c = omega (arith, v, ap (p .figure k s) e) in
-            let same : m ≡ m + 1 - 1 = omega arith in (
-              subst (λ x. Going p k s first high c (x + 1) past (n + 1)) (sym e) (going-grant g),
+            let same : m ≡ x - 1 = omega arith in
+            let one = subst (λ y. Going p k s first high c (y + 1) past (n + 1)) (sym e) (going-grant g) in
+            let two = subst (λ y. halves p k s c (digits (high + 1) - n) low past ≡ (k, s, y) ∷ halves p k s c (digits (high + 1) - (n + 1)) (y + 1) past) (sym e) (next-grant g) in (
+              subst (λ i. Going p k s first high c x past i) (sym en) (subst (λ y. Going p k s first high c y past (n + 1)) (sym ex) one),
               record { yes = λ _. v ∙ ap (p .figure k s) same; no = figs .no },
-              subst (λ x. halves p k s c (digits (high + 1) - n) low past ≡ (k, s, x) ∷ halves p k s c (digits (high + 1) - (n + 1)) (x + 1) past) (sym e) (next-grant g),
+              subst (λ i. halves p k s c (digits (high + 1) - n) low past ≡ (k, s, m) ∷ halves p k s c (digits (high + 1) - i) x past) (sym en) (subst (λ y. halves p k s c (digits (high + 1) - n) low past ≡ (k, s, m) ∷ halves p k s c (digits (high + 1) - (n + 1)) y past) (sym ex) two),
             )
 
-        pub turn-refuse : w ≡ p .figure k s m → c < w → Going p k s first high c low m (n + 1) × Figures p k s first high low m granted w × (halves p k s c (digits (high + 1) - n) low past ≡ (k, s, m) ∷ halves p k s c (digits (high + 1) - (n + 1)) low m)
+        pub turn-refuse : w ≡ p .figure k s m → c < w → Going p k s first high c low m n' × Figures p k s first high low m granted w × (halves p k s c (digits (high + 1) - n) low past ≡ (k, s, m) ∷ halves p k s c (digits (high + 1) - n') low m)
         turn-refuse v l =
-            let g : c < p .figure k s (middle low past) = omega (arith, v, ap (p .figure k s) e) in (
-              subst (λ x. Going p k s first high c low x (n + 1)) (sym e) (going-refuse g),
+            let g : c < p .figure k s (middle low past) = omega (arith, v, ap (p .figure k s) e) in
+            let one = subst (λ y. Going p k s first high c low y (n + 1)) (sym e) (going-refuse g) in
+            let two = subst (λ y. halves p k s c (digits (high + 1) - n) low past ≡ (k, s, y) ∷ halves p k s c (digits (high + 1) - (n + 1)) low y) (sym e) (next-refuse g) in (
+              subst (λ i. Going p k s first high c low m i) (sym en) one,
               record { yes = figs .yes; no = λ _. v },
-              subst (λ x. halves p k s c (digits (high + 1) - n) low past ≡ (k, s, x) ∷ halves p k s c (digits (high + 1) - (n + 1)) low x) (sym e) (next-refuse g),
+              subst (λ i. halves p k s c (digits (high + 1) - n) low past ≡ (k, s, m) ∷ halves p k s c (digits (high + 1) - i) low m) (sym en) two,
             )
 
     module _ (h : past ≤ low) where

@@ -1,9 +1,9 @@
 -- A trial keeps the numbers of a search in their ranges.
-use mathlib.Core.Path.{_≡_, refl, sym, ap, subst, _∙_}
+use mathlib.Core.Path.{_≡_, sym, ap, _∙_}
 use mathlib.Core.Bool.{Bool, true, false, cond}
 use mathlib.Core.Logic.{⊎-elim}
 use mathlib.Core.List.{List}
-use Prim.Native.Nat.{ℕ, _+_, _-_, _*_, _/_, _^_, _≤_, _<_}
+use Prim.Native.Nat.{ℕ, _+_, _-_, _*_, _^_, _≤_, _<_}
 use native.Mathlib.Nat.{mul-le-mul, mul-le-mul-right}
 use native.Mathlib.Omega.{arith}
 use lib.Pow.{pow-mono}
@@ -14,7 +14,7 @@ use Rattle.std.specs.declared.result.Result.the-variants.{Ok, Err}
 use Rattle.cost.specs.Price.{Price, Lawful}
 use Rattle.search.specs.Digits.{digits}
 use Rattle.search.specs.Trial.{Trial, succeeds, outcome}
-use Rattle.search.specs.Play.{View, trialAt, gained, lost, tried, halfway, Fair}
+use Rattle.search.specs.Play.{View, trialAt, gained, lost, tried, Fair}
 use Rattle.search.specs.Sane.{Ranges, Counts}
 use Rattle.search.proofs.Widths.{digits-rows}
 use Rattle.search.proofs.Sounds.{trial-low, trial-stands, trial-few, gap-half, gap-less}

@@ -1,21 +1,19 @@
 -- Each call keeps a search sound.
 use mathlib.Core.Path.{_≡_, refl, sym, ap, subst, _∙_}
-use mathlib.Core.Bool.{Bool, true, false, cond, _&&_}
-use mathlib.Core.Logic.{_⊎_, inl, inr, ⊎-elim}
-use mathlib.Core.List.{List, [], _∷_, _++_}
-use Prim.Native.Nat.{ℕ, zero, suc, max, _+_, _-_, _*_, _/_, _^_, _≤_, _<_}
+use mathlib.Core.Bool.{Bool, true, false, cond}
+use mathlib.Core.Logic.{⊎-elim}
+use mathlib.Core.List.{List}
+use Prim.Native.Nat.{ℕ, zero, suc, _+_, _-_, _*_, _^_, _≤_, _<_}
 use native.Mathlib.Nat.{add-mul, mul-le-mul-right, mul-assoc, mul-comm, pow-succ'}
 use native.Mathlib.Omega.{arith}
 use native.Mathlib.Numerals.{add-one}
-use lib.Dec.{eqb, leb, ltb}
-use lib.Pow.{pow-pos}
-use lib.ListN.{length, getD}
-use Rattle.std.proofs.shelf.Tests.{cases-lt, cases-bool, cond-true, cond-false, cond-both, true≢false, and-parts, and-cases, and-from, eqb-true, eqb-false, lt-ltb, le-ltb, ltb-true, ltb-false, leb-true, both-ways}
+use lib.ListN.{length}
+use Rattle.std.proofs.shelf.Tests.{cases-lt, cond-true, cond-false, cond-both, true≢false, lt-ltb, le-ltb}
 use Rattle.cost.specs.Price.{Price, Lawful}
 use Rattle.search.specs.Digits.{digits}
-use Rattle.search.specs.Cuts.{Cut, costTo, costOf, Latest}
-use Rattle.search.specs.Trial.{Trial, trialTo, succeeds, LatestWithin}
-use Rattle.search.specs.Play.{View, start, trialAt, gained, lost, tried, halfway, advanced, advanceOk, step, plays, play, Fair}
+use Rattle.search.specs.Cuts.{Cut, costOf, Latest}
+use Rattle.search.specs.Trial.{succeeds}
+use Rattle.search.specs.Play.{View, start, trialAt, gained, lost, tried, halfway, advanced, Fair}
 use Rattle.search.proofs.Greedy.{sure, trial-latest, trial-fails}
 
 -- a cut that stands, at the figure that it costs

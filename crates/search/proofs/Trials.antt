@@ -1,21 +1,19 @@
 -- What a trial comes to.
-use mathlib.Core.Path.{_≡_, refl, sym, ap, subst, _∙_}
-use mathlib.Core.Bool.{Bool, true, false, cond}
-use mathlib.Core.Logic.{_⊎_, inl, inr, ⊎-elim}
+use mathlib.Core.Path.{_≡_, refl, sym, ap, _∙_}
+use mathlib.Core.Bool.{true, false}
+use mathlib.Core.Logic.{⊎-elim}
 use mathlib.Core.List.{List, [], _∷_, _++_}
-use Prim.Native.Nat.{ℕ, zero, suc, max, _+_, _-_, _*_, _^_, _≤_, _<_}
+use Prim.Native.Nat.{ℕ, zero, suc, max, _+_, _*_, _^_, _≤_, _<_}
 use native.Mathlib.Nat.{add-mul, mul-le-mul}
 use native.Mathlib.Omega.{arith}
 use native.Mathlib.Numerals.{add-one}
 use lib.Dec.{leb, eqb}
 use lib.ListN.{length, getD, take}
-use Rattle.std.proofs.shelf.Tests.{cond-true, cond-false, cases-lt, cases-bool, eq-eqb, ne-eqb, le-leb, lt-leb, and-from, and-left, and-right}
+use Rattle.std.proofs.shelf.Tests.{cond-true, cond-false, cases-lt, eq-eqb, ne-eqb, le-leb, lt-leb, and-from, and-left, and-right}
 use Rattle.std.proofs.shelf.Lists.{getD-push, length-push, length-append}
-use Rattle.std.specs.declared.result.Result.{Result}
 use Rattle.std.specs.declared.result.Result.the-variants.{Ok, Err}
 use Rattle.cost.specs.Price.{Price, Lawful}
 use Rattle.search.specs.Digits.{digits}
-use Rattle.search.specs.Trails.{Question}
 use Rattle.search.specs.Halving.{halvingAsks, halvingRow, halved, Furthest}
 use Rattle.search.specs.Trial.{Trial, goesOn, fails, block, trialTo, succeeds, outcome}
 use Rattle.search.proofs.Widths.{digits-rows}

@@ -12,7 +12,7 @@ use Rattle.search.specs.declared.call.Call.{Call}
 use Rattle.search.specs.declared.call.Answer.{Answer}
 use Rattle.search.specs.declared.report.Report.{Report}
 use Rattle.search.specs.declared.played.Played.{Played}
-use Rattle.search.specs.Trails.{Question, Trail}
+use Rattle.search.specs.Trails.{Trail}
 use Rattle.search.specs.Play.{View, start, step, callAsks, plays, play}
 use Rattle.search.specs.Reports.{reportOf}
 use Rattle.search.specs.Runs.{answerOf, lastAnswer, runAsks, placed, playedOf}

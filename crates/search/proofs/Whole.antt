@@ -1,14 +1,14 @@
 -- What holds of whole runs.
 use mathlib.Core.Path.{_≡_, refl, sym, ap, subst, _∙_}
-use mathlib.Core.Bool.{Bool, true, false, cond, _&&_}
+use mathlib.Core.Bool.{Bool, true, false, _&&_}
 use mathlib.Core.Logic.{⊎-elim}
 use mathlib.Core.List.{List, [], _∷_, _++_}
-use Prim.Native.Nat.{ℕ, zero, suc, min, _+_, _-_, _^_, _≤_, _<_}
+use Prim.Native.Nat.{ℕ, zero, suc, _+_, _^_, _≤_, _<_}
 use native.Mathlib.Omega.{arith}
 use lib.Dec.{leb, ltb}
 use lib.ListN.{length, take, drop, replicate}
-use Rattle.std.proofs.shelf.Tests.{cases-lt, cases-bool, cond-true, cond-false, cond-both, true≢false, both-ways, ltb-true, ltb-false, leb-true, leb-false, lt-ltb, le-ltb, and-parts}
-use Rattle.std.proofs.shelf.Lists.{take-at, length-replicate}
+use Rattle.std.proofs.shelf.Tests.{cases-bool, cond-true, cond-false, cond-both, true≢false, ltb-true, ltb-false, leb-true, leb-false, le-ltb, and-parts}
+use Rattle.std.proofs.shelf.Lists.{take-at, length-append, length-replicate}
 use Rattle.std.specs.declared.option.Option.{Option}
 use Rattle.std.specs.declared.option.Option.the-variants.{Some, None}
 use Rattle.std.specs.declared.result.Result.{Result}
@@ -19,16 +19,16 @@ use Rattle.cost.specs.Price.{Price, Lawful}
 use Rattle.search.specs.declared.call.Call.{Call}
 use Rattle.search.specs.declared.call.Call.the-variants.{Advance, Try, Take, Tell}
 use Rattle.search.specs.declared.call.Answer.{Answer}
-use Rattle.search.specs.declared.call.Answer.the-variants.{Advanced, Tried, Taken, Told}
+use Rattle.search.specs.declared.call.Answer.the-variants.{Advanced, Tried}
 use Rattle.search.specs.declared.report.Report.{Report}
 use Rattle.search.specs.declared.played.Played.{Played}
 use Rattle.search.specs.declared.played.Unopened.{Unopened}
 use Rattle.search.specs.Trial.{succeeds}
-use Rattle.search.specs.Play.{View, start, trialAt, gained, lost, tried, halfway, advanced, advanceOk, tryMakes, step, plays, play}
+use Rattle.search.specs.Play.{View, start, trialAt, gained, lost, tried, halfway, advanced, advanceAsks, advanceOk, tryMakes, step, callAsks, plays, play}
 use Rattle.search.specs.Reports.{reportOf}
-use Rattle.search.specs.Answers.{openRefusal, advanceAnswer, tryAnswer, takeAnswer, taken}
+use Rattle.search.specs.Answers.{openRefusal, advanceAnswer, tryAnswer, taken}
 use Rattle.search.specs.Law.{Law, standing, Agree}
-use Rattle.search.specs.Runs.{answerOf, lastAnswer, placed, boundariesOf, playedOf, reportIn, declines, idle, busy, RunLaw, bothOr, comparedOf}
+use Rattle.search.specs.Runs.{answerOf, lastAnswer, runAsks, placed, boundariesOf, playedOf, reportIn, declines, idle, busy, RunLaw, bothOr, comparedOf}
 use Rattle.search.proofs.Sounds.{trial-low}
 use Rattle.search.proofs.Every.{counted-play, law-play, agree-play}
 use Rattle.search.proofs.Along.{plays-more, advance-declined, advance-taken, try-declined, try-taken, take-same, tell-same}
@@ -174,6 +174,48 @@ module _ (p : Price) (lawful : Lawful p) (K C : ℕ) (small : K < 2 ^ 32) where
   closer : (calls part rest : List Call) → part ++ rest ≡ calls → Closer (play p K C part) (play p K C calls)
   closer calls part rest e = subst (λ xs. Closer (play p K C part) (play p K C xs)) e (subst (Closer (play p K C part)) (sym (plays-two p K C part rest (start C))) (closer-plays rest (play p K C part)))
 
+-- as many questions are counted as are put
+module _ (p : Price) (K C : ℕ) where
+  tried-asks : (s : View) (c : ℕ) (b : Bool) → tried p K c b s .questions ≡ s .questions + length (trialAt p K c .questions)
+  unfolding tried
+  tried-asks s c b = cond-both (succeeds (p .rows) K (trialAt p K c)) (gained b s (trialAt p K c)) (lost b c s (trialAt p K c)) (λ t. t .questions ≡ s .questions + length (trialAt p K c .questions)) (λ _. refl) (λ _. refl)
+
+  advanced-asks : (n : ℕ) (s : View) → advanced p K n s .questions ≡ s .questions + length (advanceAsks p K n s)
+  unfolding advanced advanceAsks
+  advanced-asks zero s = omega arith
+  advanced-asks (suc n) s =
+      let t = tried p K (halfway s) true s in
+      ⊎-elim
+      (λ h.
+      let e1 = ap (λ (v : View). v .questions) (cond-true (ltb (s .floor) (s .figure)) (advanced p K n t) s h) in
+      let e2 = ap length (cond-true (ltb (s .floor) (s .figure)) (trialAt p K (halfway s) .questions ++ advanceAsks p K n t) [] h) in
+      omega (arith, e1, e2, length-append (trialAt p K (halfway s) .questions) (advanceAsks p K n t), advanced-asks n t, tried-asks s (halfway s) true))
+      (λ h.
+      let e1 = ap (λ (v : View). v .questions) (cond-false (ltb (s .floor) (s .figure)) (advanced p K n t) s h) in
+      let e2 = ap length (cond-false (ltb (s .floor) (s .figure)) (trialAt p K (halfway s) .questions ++ advanceAsks p K n t) [] h) in
+      omega (arith, e1, e2))
+      (cases-bool (ltb (s .floor) (s .figure)))
+
+  step-asks : (x : Call) (s : View) → step p K C x s .questions ≡ s .questions + length (callAsks p K C x s)
+  unfolding step callAsks
+  step-asks (Advance n) s =
+      ⊎-elim
+      (λ h. omega (arith, ap (λ (v : View). v .questions) (cond-true (advanceOk n) (advanced p K n s) s h), ap length (cond-true (advanceOk n) (advanceAsks p K n s) [] h), advanced-asks n s))
+      (λ h. omega (arith, ap (λ (v : View). v .questions) (cond-false (advanceOk n) (advanced p K n s) s h), ap length (cond-false (advanceOk n) (advanceAsks p K n s) [] h)))
+      (cases-bool (advanceOk n))
+  step-asks (Try c) s =
+      ⊎-elim
+      (λ h. omega (arith, ap (λ (v : View). v .questions) (cond-true (tryMakes C s c) (tried p K c false s) s h), ap length (cond-true (tryMakes C s c) (trialAt p K c .questions) [] h), tried-asks s c false))
+      (λ h. omega (arith, ap (λ (v : View). v .questions) (cond-false (tryMakes C s c) (tried p K c false s) s h), ap length (cond-false (tryMakes C s c) (trialAt p K c .questions) [] h)))
+      (cases-bool (tryMakes C s c))
+  step-asks (Take n) s = omega arith
+  step-asks Tell s = omega arith
+
+  plays-asks : (calls : List Call) (s : View) → plays p K C calls s .questions ≡ s .questions + length (runAsks p K C calls s)
+  unfolding plays runAsks
+  plays-asks [] s = omega arith
+  plays-asks (x ∷ xs) s = omega (arith, plays-asks xs (step p K C x s), step-asks x s, length-append (callAsks p K C x s) (runAsks p K C xs (step p K C x s)))
+
 -- the boundaries among the places are the standing cut
 front : (K : ℕ) (s : View) → K ≤ 1024 → (s .stands ≡ true → length (s .cut) ≡ K + 1) → boundariesOf K (placed K s) ≡ standing s
 front K s few size =
@@ -202,6 +244,7 @@ module _ (p : Price) (lawful : Lawful p) (K C : ℕ) (few : K ≤ 1024) (cap : C
         parts = λ part rest e. law-play p lawful K C few cap part;
         rises = λ part rest e. closer p lawful K C small calls part rest e .0;
         falls = λ part rest e. closer p lawful K C small calls part rest e .1;
+        counted = omega (arith, plays-asks p K C calls (start C));
         uncalled = λ e. ap (λ xs. lastAnswer p K C xs (start C) None) e ∙ last-none p K C (start C) None;
         answered = λ part call e. ap (λ xs. lastAnswer p K C xs (start C) None) (sym e) ∙ last-more p K C part call (start C) None;
         told = telling p K C calls (start C) None (λ a r e _. absurd (answer-none a e));

@@ -1,12 +1,11 @@
 -- Binary digits and powers.
 use mathlib.Core.Path.{_≡_, refl, sym, ap, subst, _∙_}
-use mathlib.Core.Bool.{Bool, true, false, cond}
 use mathlib.Core.Logic.{⊎-elim}
 use Prim.Native.Nat.{ℕ, zero, suc, _+_, _-_, _*_, _/_, _^_, _≤_, _<_}
 use native.Mathlib.Nat.{pow-succ'}
 use native.Mathlib.Omega.{arith}
 use lib.Dec.{eqb}
-use lib.Pow.{pow-pos, pow-mono}
+use lib.Pow.{pow-mono}
 use Rattle.std.proofs.shelf.Tests.{eqb-true, ne-eqb, cond-both, cond-false, cases-lt}
 use Rattle.search.specs.Digits.{HasDigits, digitsIn, digits}
 

@@ -1,18 +1,17 @@
 -- What holds at the start and after each call, of what tell answers and of what take writes to K + 1 places.
 use mathlib.Core.Path.{_≡_}
 use mathlib.Core.Bool.{cond}
-use mathlib.Core.List.{List, [], _∷_, _++_}
+use mathlib.Core.List.{List, [], _∷_}
 use Prim.Native.Nat.{ℕ, _+_, _*_, _^_, _≤_, _<_}
 use Rattle.std.specs.declared.option.Option.{Option}
 use Rattle.std.specs.declared.option.Option.the-variants.{Some, None}
-use Rattle.cost.specs.Price.{Price, Lawful, Block}
+use Rattle.cost.specs.Price.{Price, Block}
 use Rattle.search.specs.declared.report.State.the-variants.{Open, Settled, Missing}
 use Rattle.search.specs.declared.report.Report.{Report}
 use Rattle.search.specs.declared.call.Call.{Call}
 use Rattle.search.specs.declared.call.Call.the-variants.{Advance, Try, Take, Tell}
 use Rattle.search.specs.Cuts.{Cut, costOf, Latest}
-use Rattle.search.specs.Play.{View, advanceOk, play}
-use Rattle.search.specs.Reports.{reportOf}
+use Rattle.search.specs.Play.{View, advanceOk}
 
 -- the trials that the accepted calls of advance ask for
 unfoldable pub askedFor : List Call → ℕ

@@ -14,10 +14,12 @@ use Rattle.search.specs.declared.call.Call.{Call}
 use Rattle.search.specs.declared.report.Report.{Report}
 use Rattle.search.specs.Trails.{Trail}
 use Rattle.search.specs.Play.{View, start, step, callAsks, play}
+use Rattle.search.specs.Reports.{reportOf}
 use Rattle.search.specs.Answers.{openRefusal}
 use Rattle.search.specs.Law.{Law, standing}
 
 module _ {C : Type 0} where
+  -- what a search holds
   abbrev pub viewOf : Search C → View
   viewOf s = record {
     floor = s .floor;
@@ -55,11 +57,12 @@ module _ {C : Type 0} where
   abbrev pub LawAt : (C → Price) → Search C → Report → Type 0
   LawAt price s r = (calls : List Call) → Ran price s calls → Law (price (s .cost)) (s .blocks) (s .ceiling) calls r (standing (viewOf s))
 
-  -- the same of an answered report; a declined call leaves the whole search
+  -- after an advance: an answered report is what tell answers next, under the law; a declined call leaves the whole search
   abbrev pub AfterAdvance : (C → Price) → Search C → Search C → Result Report Refusal → Type 0
-  AfterAdvance price s t (Ok r) = LawAt price t r
+  AfterAdvance price s t (Ok r) = (r ≡ reportOf (viewOf t)) × LawAt price t r
   AfterAdvance price s t (Err e) = t ≡ s
 
+  -- after a try, the same
   abbrev pub AfterTry : (C → Price) → Search C → Search C → Result (Bool × Report) Refusal → Type 0
-  AfterTry price s t (Ok x) = LawAt price t (x .1)
+  AfterTry price s t (Ok x) = (x .1 ≡ reportOf (viewOf t)) × LawAt price t (x .1)
   AfterTry price s t (Err e) = t ≡ s

@@ -71,6 +71,10 @@ unfoldable pub advanced : Price → ℕ → ℕ → View → View
 advanced p K zero s = s
 advanced p K (suc n) s = cond (ltb (s .floor) (s .figure)) (advanced p K n (tried p K (halfway s) true s)) s
 
+-- an advance by i + j is one by i and then one by j
+abbrev pub AdvanceSplits : Price → ℕ → View → Type 0
+AdvanceSplits p K s = (i j : ℕ) → advanced p K (i + j) s ≡ advanced p K j (advanced p K i s)
+
 -- the questions of an advance by n
 unfoldable pub advanceAsks : Price → ℕ → ℕ → View → List Question
 advanceAsks p K zero s = []
@@ -98,6 +102,7 @@ callAsks p K C (Try c) s = cond (tryMakes C s c) (trialAt p K c .questions) []
 callAsks p K C (Take n) s = []
 callAsks p K C Tell s = []
 
+-- the calls one after the other
 unfoldable pub plays : Price → ℕ → ℕ → List Call → View → View
 plays p K C [] s = s
 plays p K C (x ∷ xs) s = plays p K C xs (step p K C x s)

@@ -1,6 +1,5 @@
 -- What a search reports.
 use mathlib.Core.Bool.{cond}
-use Prim.Native.Nat.{ℕ}
 use lib.Dec.{ltb}
 use Rattle.search.specs.declared.report.State.{State}
 use Rattle.search.specs.declared.report.State.the-variants.{Open, Settled, Missing}

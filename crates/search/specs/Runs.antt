@@ -3,7 +3,7 @@ use mathlib.Core.Path.{_≡_}
 use mathlib.Core.Bool.{Bool, true, false, cond}
 use mathlib.Core.List.{List, [], _∷_, _++_}
 use Prim.Native.Nat.{ℕ, min, _+_, _≤_}
-use lib.ListN.{take, replicate}
+use lib.ListN.{length, take, replicate}
 use Rattle.std.specs.declared.option.Option.{Option}
 use Rattle.std.specs.declared.option.Option.the-variants.{Some, None}
 use Rattle.std.specs.declared.result.Result.{Result}
@@ -19,7 +19,7 @@ use Rattle.search.specs.declared.played.Played.{Played}
 use Rattle.search.specs.declared.played.Run.the-variants.{First, Second}
 use Rattle.search.specs.declared.played.Unopened.{Unopened}
 use Rattle.search.specs.Trails.{Question}
-use Rattle.search.specs.Play.{View, start, step, callAsks, plays, play}
+use Rattle.search.specs.Play.{View, start, step, callAsks, play}
 use Rattle.search.specs.Reports.{reportOf}
 use Rattle.search.specs.Answers.{openRefusal, advanceAnswer, tryAnswer, takeAnswer, taken}
 use Rattle.search.specs.Law.{Law, standing}
@@ -99,6 +99,8 @@ pub record RunLaw (p : Price) (K C : ℕ) (calls : List Call) (x : Played) : Typ
   -- the floor never falls, and the figure never rises
   pub rises : (part rest : List Call) → part ++ rest ≡ calls → play p K C part .floor ≤ x .report .floor
   pub falls : (part rest : List Call) → part ++ rest ≡ calls → x .report .figure ≤ play p K C part .figure
+  -- as many questions are reported as are put
+  pub counted : x .report .questions ≡ length (runAsks p K C calls (start C))
   -- the last answer is that to the last call; a report in it is the report; if it was declined, nothing changed
   pub uncalled : calls ≡ [] → x .last ≡ None
   pub answered : (part : List Call) (call : Call) → part ++ (call ∷ []) ≡ calls → x .last ≡ Some (answerOf p K C call (play p K C part))
@@ -113,5 +115,6 @@ bothOr (Some e) other both = Err (record { run = First; reason = e })
 bothOr None (Some e) both = Err (record { run = Second; reason = e })
 bothOr None None both = Ok both
 
+-- what the comparison of two runs comes to
 abbrev pub comparedOf : Price → Price → ℕ → ℕ → List Call → ℕ → List Call → Result (Played × Played) Unopened
 comparedOf p q K C calls D others = bothOr (openRefusal K C) (openRefusal K D) (playedOf p K C calls, playedOf q K D others)

@@ -1,4 +1,4 @@
--- The number of each state of a search.
+-- The number of each state of a search: open 1, settled 2, missing 3.
 use Prim.Native.Nat.{ℕ}
 use Rattle.search.specs.declared.report.State.{State}
 use Rattle.search.specs.declared.report.State.the-variants.{Open, Settled, Missing}

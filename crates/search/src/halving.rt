@@ -1,5 +1,6 @@
 // The questions of one block of a trial.
-ghost use Prim.Native.Nat.{_≤_, _<_};
+ghost use Prim.Native.Nat.{_+_, _≤_, _<_};
+ghost use Rattle.cost.specs.Price.{asked};
 ghost use Rattle.search.specs.Halving.{Enough, Furthest, halved, halvingAsks, middle};
 ghost use Rattle.search.specs.Trails.{Trail};
 ghost use lib.Dec.{leb};
@@ -20,6 +21,31 @@ fn middle_of(low: u32, past: u32) -> u32
     ensures { λ r. ⌜ r ≡ middle low past ⌝ }
 {
     (low + past - 1) / 2
+}
+
+/// The row after a granted one.
+fn row_after(row: u32) -> u32
+    requires { ⌜ row ≤ 1000000 ⌝ }
+    ensures { λ r. ⌜ r ≡ row + 1 ⌝ }
+{
+    row + 1
+}
+
+/// One question more.
+fn one_more(questions: u32) -> u32
+    requires { ⌜ questions < 20 ⌝ }
+    ensures { λ r. ⌜ r ≡ questions + 1 ⌝ }
+{
+    questions + 1
+}
+
+/// Puts one question.
+fn ask<C: Cost>(cost: &mut C, block: u32, start: u32, row: u32) -> u64
+    ensures value { λ r. ⌜ r ≡ asked (price (now (cost .entry))) block start row ⌝ }
+    ensures same { λ _. ⌜ price (now (cost .exit)) ≡ price (now (cost .entry)) ⌝ }
+    ensures puts { λ _. ⌜ put (now (cost .entry)) block start row (now (cost .exit)) ⌝ }
+{
+    cost.figure(block, start, row)
 }
 
 /// The furthest row from low to high at which the block from `start` on is granted at c, its figure, and the number of
@@ -48,11 +74,11 @@ pub(crate) fn halving<C: Cost>(
     let mut questions: u32 = 0;
     while from < past {
         let middle = middle_of(from, past);
-        let figure = cost.figure(block, start, middle);
-        questions += 1;
+        let figure = ask(cost, block, start, middle);
+        questions = one_more(questions);
         if grants(figure, c) {
             granted = figure;
-            from = middle + 1;
+            from = row_after(middle);
         } else {
             refused = figure;
             past = middle;

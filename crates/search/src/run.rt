@@ -7,6 +7,7 @@ ghost use Rattle.search.specs.Play.{start};
 ghost use Rattle.search.specs.Runs.{answerOf, comparedOf, placed, playedOf, runAsks};
 ghost use Rattle.search.specs.Trails.{Trail};
 ghost use Rattle.std.specs.declared.option.Option.the-variants.{Some, None};
+ghost use Rattle.std.specs.declared.result.Result.the-variants.{Ok, Err};
 ghost use mathlib.Core.Path.{_≡_};
 use crate::call::Answer;
 use crate::call::Call;
@@ -69,6 +70,28 @@ fn run_through<C: Cost>(cost: C, blocks: u32, ceiling: u64, calls: &[Call]) -> (
     (Played { report, cut, last }, search.close())
 }
 
+/// Two runs of which the searches can be opened: what they come to, and the costs back.
+fn both_runs<C: Cost, D: Cost>(
+    blocks: u32,
+    first: C,
+    first_ceiling: u64,
+    first_calls: &[Call],
+    second: D,
+    second_ceiling: u64,
+    second_calls: &[Call],
+) -> (Played, Played, C, D)
+    requires first_opens { ⌜ openRefusal blocks «first_ceiling» ≡ None ⌝ }
+    requires second_opens { ⌜ openRefusal blocks «second_ceiling» ≡ None ⌝ }
+    ensures law { λ r. ⌜ BothLaws (C·Cost .price first) (D·Cost .price second) blocks «first_ceiling» (now («first_calls» .entry)) «second_ceiling» (now («second_calls» .entry)) (Ok (r .0, r .1)) ⌝ }
+    ensures exact { λ r. ⌜ Ok (r .0, r .1) ≡ comparedOf (C·Cost .price first) (D·Cost .price second) blocks «first_ceiling» (now («first_calls» .entry)) «second_ceiling» (now («second_calls» .entry)) ⌝ }
+    ensures first_back { λ r. ⌜ Returned (C·Cost .price) (C·Cost .put) blocks «first_ceiling» (now («first_calls» .entry)) first (r .2) (Ok (r .0, r .1)) ⌝ }
+    ensures second_back { λ r. ⌜ Returned (D·Cost .price) (D·Cost .put) blocks «second_ceiling» (now («second_calls» .entry)) second (r .3) (Ok (r .0, r .1)) ⌝ }
+{
+    let (one, first) = run_through(first, blocks, first_ceiling, first_calls);
+    let (two, second) = run_through(second, blocks, second_ceiling, second_calls);
+    (one, two, first, second)
+}
+
 /// Two runs over as many blocks. Both openings are tested before either runs; then each list of calls is played through
 /// a real search, and the law of runs holds of both and of the pair.
 pub fn compare<C: Cost, D: Cost>(
@@ -105,7 +128,14 @@ pub fn compare<C: Cost, D: Cost>(
             second,
         );
     }
-    let (one, first) = run_through(first, blocks, first_ceiling, first_calls);
-    let (two, second) = run_through(second, blocks, second_ceiling, second_calls);
+    let (one, two, first, second) = both_runs(
+        blocks,
+        first,
+        first_ceiling,
+        first_calls,
+        second,
+        second_ceiling,
+        second_calls,
+    );
     (Ok((one, two)), first, second)
 }

@@ -1,5 +1,5 @@
 // One trial: from block to block, each as far as c grants.
-ghost use Prim.Native.Nat.{_+_, _≤_, _<_};
+ghost use Prim.Native.Nat.{_+_, _≤_, _<_, max};
 ghost use Rattle.search.specs.Trails.{Trail};
 ghost use Rattle.search.specs.Trial.{TrialLaw, outcome, trialTo};
 ghost use lib.ListN.{length, take};
@@ -7,6 +7,13 @@ ghost use mathlib.Core.Path.{_≡_};
 use crate::halving::grants;
 use crate::halving::halving;
 use cost::Cost;
+
+/// The greater of two figures.
+fn dearer(worst: u64, figure: u64) -> u64
+    ensures { λ r. ⌜ r ≡ max worst figure ⌝ }
+{
+    worst.max(figure)
+}
 
 /// A trial at c over the rows up to `end`: it writes its boundaries to the front of `boundaries`, and answers with what
 /// its cut costs and the number of questions, or with that number alone where it fails.
@@ -38,7 +45,7 @@ pub(crate) fn trial<C: Cost>(
         }
         boundaries[k as usize + 1] = boundary;
         start = boundary;
-        worst = worst.max(figure);
+        worst = dearer(worst, figure);
     }
     if start == end {
         Ok((worst, questions))

@@ -1,8 +1,8 @@
 // The calls of a search.
-ghost use Prim.Native.Nat.{ℕ, _+_, _-_, _*_, _^_, _≤_, _<_};
+ghost use Prim.Native.Nat.{_+_, _^_, _≤_, _<_};
 ghost use Rattle.search.specs.Answers.{Told, advanceAnswer, openRefusal, takeAnswer, taken, tryAnswer};
 ghost use Rattle.search.specs.Of.{AfterAdvance, AfterTry, Follows, LawAt, Opened, Ran, viewOf};
-ghost use Rattle.search.specs.Play.{Fair, advanceOk, halfway, tried, trialAt, tryMakes};
+ghost use Rattle.search.specs.Play.{AdvanceSplits, Fair, advanceOk, halfway, tried, trialAt, tryMakes};
 ghost use Rattle.search.specs.Reports.{reportOf, stateOf};
 ghost use Rattle.search.specs.Trails.{Trail};
 ghost use Rattle.search.specs.Trial.{succeeds};
@@ -10,7 +10,7 @@ ghost use Rattle.std.specs.declared.option.Option.the-variants.{Some, None};
 ghost use Rattle.std.specs.declared.result.Result.the-variants.{Ok, Err};
 ghost use lib.Dec.{leb, ltb};
 ghost use lib.ListN.{length};
-ghost use mathlib.Core.Bool.{Bool, true, false, cond, _&&_};
+ghost use mathlib.Core.Bool.{true, false, cond, _&&_};
 ghost use mathlib.Core.List.{List};
 ghost use mathlib.Core.Path.{_≡_};
 use crate::call::Call;
@@ -28,6 +28,15 @@ fn counts(advancing: bool) -> (u32, u32)
     ensures tries { λ r. ⌜ r .1 ≡ cond advancing 0 1 ⌝ }
 {
     if advancing { (1, 0) } else { (0, 1) }
+}
+
+/// The standing figure after a trial at c succeeded: what its cut costs, which may be below c.
+fn standing_at(c: u64, cost: u64) -> u64
+    requires { ⌜ cost ≤ c ⌝ }
+    ensures { λ r. ⌜ r ≡ cost ⌝ }
+{
+    let _ = c;
+    cost
 }
 
 /// The floor after a trial at c failed.
@@ -111,6 +120,7 @@ impl<C: Cost> Search<C> {
         cost
     }
 
+    /// Open while the floor is below the standing figure; then settled where a cut stands, and missing where none does.
     fn state(&self) -> State
         ensures { λ r. ⌜ r ≡ stateOf (viewOf (now (self .entry))) ⌝ }
     {
@@ -171,7 +181,7 @@ impl<C: Cost> Search<C> {
         match outcome {
             Ok((figure, asked)) => {
                 self.questions += asked;
-                self.figure = figure;
+                self.figure = standing_at(c, figure);
                 self.stands = true;
                 self.boundaries = boundaries;
                 true
@@ -190,6 +200,7 @@ impl<C: Cost> Search<C> {
         ensures follows { λ _. ⌜ Follows price put (Call.Advance n) (now (self .entry)) (now (self .exit)) ⌝ }
         ensures answer { λ r. ⌜ r ≡ advanceAnswer (price (now (self .entry) .cost)) (now (self .entry) .blocks) n (viewOf (now (self .entry))) ⌝ }
         ensures after { λ r. ⌜ AfterAdvance price (now (self .entry)) (now (self .exit)) r ⌝ }
+        ensures splits { λ _. ⌜ AdvanceSplits (price (now (self .entry) .cost)) (now (self .entry) .blocks) (viewOf (now (self .entry))) ⌝ }
     {
         if !advances_by(n) {
             return Err(Refusal::Count);
@@ -203,6 +214,34 @@ impl<C: Cost> Search<C> {
         Ok(self.tell())
     }
 
+    /// Whether c is above the ceiling.
+    fn too_high(&self, c: u64) -> bool
+        ensures { λ r. ⌜ r ≡ ltb (now (self .entry) .ceiling) c ⌝ }
+    {
+        c > self.ceiling
+    }
+
+    /// Whether c is below the floor, so that no cut costs c or less.
+    fn too_low(&self, c: u64) -> bool
+        ensures { λ r. ⌜ r ≡ ltb c (now (self .entry) .floor) ⌝ }
+    {
+        c < self.floor
+    }
+
+    /// Whether c is at or above the standing figure, so that the standing cut costs c or less.
+    fn reached(&self, c: u64) -> bool
+        ensures { λ r. ⌜ r ≡ leb (now (self .entry) .figure) c ⌝ }
+    {
+        c >= self.figure
+    }
+
+    /// Whether another try trial may be made.
+    fn tries_left(&self) -> bool
+        ensures { λ r. ⌜ r ≡ ltb (now (self .entry) .«try_trials») 65535 ⌝ }
+    {
+        self.try_trials < 65535
+    }
+
     /// Whether some cut costs c or less, and the report: known, or found by a trial at c.
     pub fn try_at(&mut self, c: u64) -> Result<(bool, Report), Refusal>
         ensures follows { λ _. ⌜ Follows price put (Call.Try c) (now (self .entry)) (now (self .exit)) ⌝ }
@@ -211,16 +250,16 @@ impl<C: Cost> Search<C> {
         ensures unchanged { λ _. ⌜ (tryMakes (now (self .entry) .ceiling) (viewOf (now (self .entry))) c ≡ false → now (self .exit) ≡ now (self .entry)) ⌝ }
         ensures told { λ r. ⌜ ((calls : List Call) → Ran price (now (self .entry)) calls → Told (price (now (self .entry) .cost)) (now (self .entry) .blocks) c r) ⌝ }
     {
-        if c > self.ceiling {
+        if self.too_high(c) {
             return Err(Refusal::Ceiling);
         }
-        if c < self.floor {
+        if self.too_low(c) {
             return Ok((false, self.tell()));
         }
-        if c >= self.figure {
+        if self.reached(c) {
             return Ok((true, self.tell()));
         }
-        if self.try_trials >= 65535 {
+        if !self.tries_left() {
             return Err(Refusal::Count);
         }
         let succeeded = self.one_trial(c, false);

@@ -1,16 +1,13 @@
-use mathlib.Core.Path.{_≡_, refl, sym, ap, subst, _∙_}
-use mathlib.Core.List.{List, [], _∷_}
-use Prim.Native.Nat.{ℕ, _+_, _-_, _^_, _≤_, _<_}
+use mathlib.Core.Path.{_≡_, refl, sym, subst, _∙_}
+use Prim.Native.Nat.{_+_, _-_, _^_, _<_}
 use native.Mathlib.Omega.{arith}
-use lib.Dec.{leb}
 use Rattle.std.proofs.shelf.Tests.{leb-true, leb-false}
-use Rattle.cost.specs.Price.{Price, Lawful, asked}
 use Rattle.search.specs.Digits.{digits}
-use Rattle.search.specs.Trails.{Question, Trail}
-use Rattle.search.specs.Halving.{middle, halves, halvingAsks}
+use Rattle.search.specs.Trails.{Trail}
+use Rattle.search.specs.Halving.{halves}
 use Rattle.search.proofs.Widths.{digits-rows}
 use Rattle.search.proofs.Trailing.{trail-none, trail-one}
-use Rattle.search.proofs.Halves.{Going, Figures, going-start, going-room, turn-grant, turn-refuse, halves-all, halves-stop, ended-granted, ended-refused, enough, asked-at}
+use Rattle.search.proofs.Halves.{going-start, going-room, turn-grant, turn-refuse, halves-all, halves-stop, ended-granted, ended-refused, enough, asked-at}
 use Rattle.search.proofs.halving.halving.Needs as need
 
 pub loop-from-holds : need.loop-from-holds
@@ -24,34 +21,35 @@ loop-from-holds g c =
       λ z t. subst (λ qs. Trail (g .C·Cost .put) (a .cost .now) qs z) (halves-all p (a .block) (a .start) (a .low) (a .high) (a .c)) t,
     )
 
-pub add-questions : need.add-questions
-add-questions g c =
+pub one-more-questions-requires : need.one-more-questions-requires
+one-more-questions-requires g c =
     let a = c .args in
     let l = c .loop-from in
     let p = g .C·Cost .price (a .cost .now) in
     let law = g .C·Cost·met .lawful (a .cost .now) in
     let fits : a .block < 2 ^ 32 = omega arith in
     let room = going-room p law (a .block) (a .start) (a .low) (a .high) (a .c) fits (c .pre .from) (c .pre .within) (l .from) (l .past) (l .questions) (l .inv .1) (c .loop-from-test .taken) in
-    omega (arith, room, digits-rows (a .high) (omega (arith, c .pre .within, law .few)))
+    λ _. omega (arith, room, digits-rows (a .high) (omega (arith, c .pre .within, law .few)))
 
 pub loop-from-again-then-grants : need.loop-from-again-then-grants
 loop-from-again-then-grants g c =
     let a = c .args in
     let l = c .loop-from in
     let m = c .middle-of-middle .result in
-    let w = c .figure-figure .result in
-    let next = c .figure-figure .last .self in
+    let w = c .ask-figure .result in
+    let n = c .one-more-questions .result in
+    let next = c .ask-figure .last .cost in
     let p = g .C·Cost .price (a .cost .now) in
     let law = g .C·Cost·met .lawful (a .cost .now) in
     let fits : a .block < 2 ^ 32 = omega arith in
     let going = l .inv .1 in
-    let is : w ≡ p .figure (a .block) (a .start) m = asked-at p (g .C·Cost .price (l .cost)) (a .block) (a .start) m w (l .inv .0) (omega (arith, c .pre .from, going .from, c .middle-of-middle .ensures)) (omega (arith, c .pre .within, going .within, c .middle-of-middle .ensures)) (c .figure-figure .ensures .value) in
+    let is : w ≡ p .figure (a .block) (a .start) m = asked-at p (g .C·Cost .price (l .cost)) (a .block) (a .start) m w (l .inv .0) (omega (arith, c .pre .from, going .from, c .middle-of-middle .ensures)) (omega (arith, c .pre .within, going .within, c .middle-of-middle .ensures)) (c .ask-figure .ensures .value) in
     let yes = leb-true w (a .c) (sym (c .grants .ensures) ∙ c .if-grants .taken) in
-    let turn = turn-grant p law (a .block) (a .start) (a .low) (a .high) (a .c) fits (c .pre .from) (c .pre .within) (l .from) (l .past) (l .questions) going (c .loop-from-test .taken) m w (l .granted) (l .refused) (c .middle-of-middle .ensures) (l .inv .2) is yes in (
-      c .figure-figure .ensures .same ∙ l .inv .0,
+    let turn = turn-grant p law (a .block) (a .start) (a .low) (a .high) (a .c) fits (c .pre .from) (c .pre .within) (l .from) (l .past) (l .questions) going (c .loop-from-test .taken) m w n (l .granted) (l .refused) (c .middle-of-middle .ensures) (c .one-more-questions .ensures) (l .inv .2) (c .row-after-from .result) (c .row-after-from .ensures) is yes in (
+      c .ask-figure .ensures .same ∙ l .inv .0,
       turn .0,
       turn .1,
-      λ z t. l .inv .3 z (subst (λ qs. Trail (g .C·Cost .put) (l .cost) qs z) (sym (turn .2)) (trail-one (g .C·Cost .put) (l .cost) next z (a .block, a .start, m) (halves p (a .block) (a .start) (a .c) (digits (a .high + 1) - (l .questions + 1)) (m + 1) (l .past)) (c .figure-figure .ensures .puts) t)),
+      λ z t. l .inv .3 z (subst (λ qs. Trail (g .C·Cost .put) (l .cost) qs z) (sym (turn .2)) (trail-one (g .C·Cost .put) (l .cost) next z (a .block, a .start, m) (halves p (a .block) (a .start) (a .c) (digits (a .high + 1) - n) (c .row-after-from .result) (l .past)) (c .ask-figure .ensures .puts) t)),
     )
 
 pub loop-from-again : need.loop-from-again
@@ -59,19 +57,20 @@ loop-from-again g c =
     let a = c .args in
     let l = c .loop-from in
     let m = c .middle-of-middle .result in
-    let w = c .figure-figure .result in
-    let next = c .figure-figure .last .self in
+    let w = c .ask-figure .result in
+    let n = c .one-more-questions .result in
+    let next = c .ask-figure .last .cost in
     let p = g .C·Cost .price (a .cost .now) in
     let law = g .C·Cost·met .lawful (a .cost .now) in
     let fits : a .block < 2 ^ 32 = omega arith in
     let going = l .inv .1 in
-    let is : w ≡ p .figure (a .block) (a .start) m = asked-at p (g .C·Cost .price (l .cost)) (a .block) (a .start) m w (l .inv .0) (omega (arith, c .pre .from, going .from, c .middle-of-middle .ensures)) (omega (arith, c .pre .within, going .within, c .middle-of-middle .ensures)) (c .figure-figure .ensures .value) in
+    let is : w ≡ p .figure (a .block) (a .start) m = asked-at p (g .C·Cost .price (l .cost)) (a .block) (a .start) m w (l .inv .0) (omega (arith, c .pre .from, going .from, c .middle-of-middle .ensures)) (omega (arith, c .pre .within, going .within, c .middle-of-middle .ensures)) (c .ask-figure .ensures .value) in
     let no = leb-false w (a .c) (sym (c .grants .ensures) ∙ c .if-grants .left) in
-    let turn = turn-refuse p law (a .block) (a .start) (a .low) (a .high) (a .c) fits (c .pre .from) (c .pre .within) (l .from) (l .past) (l .questions) going (c .loop-from-test .taken) m w (l .granted) (l .refused) (c .middle-of-middle .ensures) (l .inv .2) is no in (
-      c .figure-figure .ensures .same ∙ l .inv .0,
+    let turn = turn-refuse p law (a .block) (a .start) (a .low) (a .high) (a .c) fits (c .pre .from) (c .pre .within) (l .from) (l .past) (l .questions) going (c .loop-from-test .taken) m w n (l .granted) (l .refused) (c .middle-of-middle .ensures) (c .one-more-questions .ensures) (l .inv .2) is no in (
+      c .ask-figure .ensures .same ∙ l .inv .0,
       turn .0,
       turn .1,
-      λ z t. l .inv .3 z (subst (λ qs. Trail (g .C·Cost .put) (l .cost) qs z) (sym (turn .2)) (trail-one (g .C·Cost .put) (l .cost) next z (a .block, a .start, m) (halves p (a .block) (a .start) (a .c) (digits (a .high + 1) - (l .questions + 1)) (l .from) m) (c .figure-figure .ensures .puts) t)),
+      λ z t. l .inv .3 z (subst (λ qs. Trail (g .C·Cost .put) (l .cost) qs z) (sym (turn .2)) (trail-one (g .C·Cost .put) (l .cost) next z (a .block, a .start, m) (halves p (a .block) (a .start) (a .c) (digits (a .high + 1) - n) (l .from) m) (c .ask-figure .ensures .puts) t)),
     )
 
 pub returns-then-from-low : need.returns-then-from-low

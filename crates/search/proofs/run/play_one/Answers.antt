@@ -1,5 +1,4 @@
-use mathlib.Core.Path.{_≡_, refl, sym, ap, subst, _∙_}
-use Rattle.search.specs.declared.call.Call.{Call}
+use mathlib.Core.Path.{sym, ap, subst, _∙_}
 use Rattle.search.specs.declared.call.Call.the-variants.{Take, Tell}
 use Rattle.search.specs.declared.call.Answer.the-variants.{Taken, Told}
 use Rattle.search.specs.Runs.{answerOf}

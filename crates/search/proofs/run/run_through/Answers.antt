@@ -1,4 +1,4 @@
-use mathlib.Core.Path.{_≡_, refl, sym, ap, subst, _∙_}
+use mathlib.Core.Path.{sym, ap, subst, _∙_}
 use Rattle.std.proofs.shelf.Lists.{drop-all}
 use Rattle.search.specs.Trails.{Trail}
 use Rattle.search.specs.Runs.{runAsks}

@@ -1,16 +1,14 @@
 use mathlib.Core.Path.{_≡_, refl, sym, ap, subst, _∙_}
-use mathlib.Core.List.{List, [], _∷_, _++_}
-use Prim.Native.Nat.{ℕ, max, _+_, _-_, _^_, _≤_, _<_}
+use mathlib.Core.List.{List}
+use Prim.Native.Nat.{ℕ, max, _+_, _^_, _<_}
 use native.Mathlib.Omega.{arith}
-use lib.Dec.{leb}
-use lib.ListN.{length, take, set, length-set}
+use lib.ListN.{take, set, length-set}
 use Rattle.std.proofs.shelf.Lists.{take-more-set}
-use Rattle.std.proofs.shelf.Tests.{leb-true, leb-false, not-true, not-false}
+use Rattle.std.proofs.shelf.Tests.{leb-true, leb-false}
 use Rattle.std.specs.declared.result.Result.the-variants.{Ok, Err}
-use Rattle.cost.specs.Price.{Price, Lawful}
-use Rattle.search.specs.Trails.{Question, Trail}
+use Rattle.search.specs.Trails.{Trail}
 use Rattle.search.specs.Halving.{halved, halvingAsks}
-use Rattle.search.specs.Trial.{Trial, trialTo, outcome}
+use Rattle.search.specs.Trial.{Trial, trialTo}
 use Rattle.search.proofs.Trailing.{trail-none, trail-more}
 use Rattle.search.proofs.Trials.{Walking, trial-first, walking-start, walking-few, walking-asks, walking-next, failed-asks, failed-cut, failed-is, reached-is, short-is, front-is}
 use Rattle.search.proofs.Greedy.{trial-law}
@@ -79,7 +77,7 @@ loop-k-again g c =
     let more = take-more-set (l .boundaries) (l .k + 1) (r .0) (omega (arith, l .kept .boundaries, length-set (a .boundaries .now) 0 0)) in
     let there = subst (λ xs. Walking p (a .end) (a .c) (l .k + 1) xs (r .0) (max (l .worst) (r .1)) (l .questions + r .2)) (sym more) next in (
       c .halving-boundary .ensures .same ∙ l .inv .0,
-      subst (λ w. Walking p (a .end) (a .c) (l .k + 1) (take (l .k + 1 + 1) (set (l .boundaries) (l .k + 1) (r .0))) (r .0) w (l .questions + r .2)) (sym (c .max-worst .ensures)) there,
+      subst (λ w. Walking p (a .end) (a .c) (l .k + 1) (take (l .k + 1 + 1) (set (l .boundaries) (l .k + 1) (r .0))) (r .0) w (l .questions + r .2)) (sym (c .dearer-worst .ensures)) there,
       subst (λ qs. Trail (g .C·Cost .put) (a .cost .now) qs (c .halving-boundary .last .cost)) (sym (walking-asks p law (a .end) (a .c) (l .k) fits (c .pre .within) cut (l .start) (l .worst) (l .questions) (l .inv .1) (r .0) (r .1) (r .2) e yes)) on,
     )
 

@@ -1,13 +1,10 @@
 use mathlib.Core.Path.{_≡_, refl, sym, ap, subst, _∙_}
-use mathlib.Core.Bool.{Bool, true, false, cond, _&&_}
-use mathlib.Core.List.{_++_}
+use mathlib.Core.Bool.{true, false}
 use native.Mathlib.Omega.{arith}
-use Prim.Native.Nat.{ℕ, _+_, _-_, _≤_, _<_}
+use Prim.Native.Nat.{_-_}
 use lib.Dec.{ltb}
 use Rattle.std.proofs.shelf.Tests.{cond-true, cond-false, and-parts, ltb-true}
-use Rattle.std.specs.declared.result.Result.{Result}
-use Rattle.std.specs.declared.result.Result.the-variants.{Ok, Err}
-use Rattle.refusal.specs.declared.Refusal.{Refusal}
+use Rattle.std.specs.declared.result.Result.the-variants.{Ok}
 use Rattle.search.specs.declared.call.Call.the-variants.{Advance}
 use Rattle.search.specs.declared.report.Report.{Report}
 use Rattle.search.specs.Trails.{Trail}
@@ -15,7 +12,7 @@ use Rattle.search.specs.Play.{advanced, advanceAsks, advanceOk, trialAt, tried
 use Rattle.search.specs.Reports.{reportOf}
 use Rattle.search.specs.Of.{viewOf}
 use Rattle.search.proofs.Trailing.{trail-none, trail-more}
-use Rattle.search.proofs.Along.{Kept, kept-more, follows, follows-same, advance-declined, advance-unasked, advance-taken, advance-asked, advanced-turn, asks-turn, advanced-stop}
+use Rattle.search.proofs.Along.{Kept, kept-more, follows, follows-same, advance-declined, advance-unasked, advance-taken, advance-asked, advanced-turn, asks-turn, advanced-stop, splits}
 use Rattle.search.proofs.search.Search.advance.Needs as need
 
 pub returns-then-not-advances-by : need.returns-then-not-advances-by
@@ -27,6 +24,7 @@ returns-then-not-advances-by g c =
       follows = follows-same (g .C·Cost .price) (g .C·Cost .put) (Advance (c .args .n)) s (advance-declined p (s .blocks) (s .ceiling) (viewOf s) (c .args .n) bad) (advance-unasked p (s .blocks) (s .ceiling) (viewOf s) (c .args .n) bad);
       answer = sym (cond-false (advanceOk (c .args .n)) _ _ bad);
       after = refl;
+      splits = splits p (s .blocks) (viewOf s);
     }
 
 pub one-trial-requires : need.one-trial-requires
@@ -82,5 +80,6 @@ returns g c =
     record {
       follows = follows (g .C·Cost .price) (g .C·Cost .put) (Advance n) s t (c .loop-self .inv .0) (whole ∙ advance-taken p K (s .ceiling) (viewOf s) n good) (subst (λ qs. Trail (g .C·Cost .put) (s .cost) qs (t .cost)) (advance-asked p K (s .ceiling) (viewOf s) n good) asks);
       answer = ap (λ (r : Report). Ok r) (c .tell .ensures .exact ∙ ap reportOf whole) ∙ sym (cond-true (advanceOk n) _ _ good);
-      after = c .tell .ensures .law;
+      after = (c .tell .ensures .exact, c .tell .ensures .law);
+      splits = splits p K (viewOf s);
     }

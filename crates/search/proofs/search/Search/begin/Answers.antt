@@ -1,4 +1,4 @@
-use mathlib.Core.Path.{_≡_, refl, sym}
+use mathlib.Core.Path.{refl, sym}
 use Rattle.search.proofs.Along.{play-none}
 use Rattle.search.proofs.search.Search.begin.Needs as need
 

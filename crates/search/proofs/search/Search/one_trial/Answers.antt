@@ -1,14 +1,12 @@
 use mathlib.Core.Path.{_≡_, refl, sym, ap, subst, _∙_}
-use mathlib.Core.List.{List}
-use Prim.Native.Nat.{ℕ, _+_, _*_, _^_, _≤_, _<_}
+use Prim.Native.Nat.{_+_}
 use native.Mathlib.Omega.{arith}
 use lib.ListN.{length, take}
-use Rattle.cost.specs.Price.{Price}
 use Rattle.search.specs.Trails.{Trail}
 use Rattle.search.specs.Trial.{trialTo, outcome}
 use Rattle.search.specs.Play.{trialAt}
 use Rattle.search.specs.Of.{viewOf}
-use Rattle.search.proofs.Sanes.{won, failed, won-low, won-size, few-asks, ranges-gained, ranges-lost, counts-next, gained-is, lost-is}
+use Rattle.search.proofs.Sanes.{Won, won, failed, won-low, won-size, few-asks, ranges-gained, ranges-lost, counts-next, gained-is, lost-is}
 use Rattle.search.proofs.search.Search.one_trial.Needs as need
 
 pub add-self-in-Ok : need.add-self-in-Ok
@@ -34,7 +32,7 @@ ghost-self g c =
     let few = few-asks p law (s .blocks) at (s .shape .1) (c .in-Ok .asked) (h .questions) in (
       s .shape,
       (
-        ranges-gained (s .ceiling) (s .shape .2) (viewOf s) (s .ranges) (s .counts) at (c .pre .above) (c .pre .under) (c .args .advancing) (c .pre .fair) (x .0) (c .counts-advances .ensures .advances) (c .in-Ok .figure) low,
+        ranges-gained (s .ceiling) (s .shape .2) (viewOf s) (s .ranges) (s .counts) at (c .pre .above) (c .pre .under) (c .args .advancing) (c .pre .fair) (x .0) (c .counts-advances .ensures .advances) (c .standing-at-self .result) (omega (arith, low, c .standing-at-self .ensures)),
         (
           counts-next (s .ceiling) (s .shape .2) (viewOf s) (s .ranges) (s .counts) at (c .pre .above) (c .pre .under) (c .args .advancing) (c .pre .fair) (x .0) (x .1) (c .counts-advances .ensures .advances) (c .counts-advances .ensures .tries) (c .in-Ok .asked) few,
           tt,
@@ -86,7 +84,7 @@ returns-in-Ok g c =
     let written = subst (λ m. take (length (trialTo p m at (s .blocks) .cut)) wrote ≡ trialTo p m at (s .blocks) .cut) rows (c .trial-outcome .ensures .written) in
     let cut : take (s .blocks + 1) wrote ≡ trialAt p (s .blocks) at .cut = ap (λ n. take n wrote) (sym size) ∙ written in
     record {
-      exact = gained-is p (s .blocks) at (viewOf s) (c .args .advancing) (x .0) (x .1) (c .in-Ok .asked) (c .counts-advances .ensures .advances) (c .counts-advances .ensures .tries) (c .in-Ok .figure) (take (s .blocks + 1) wrote) h cut;
+      exact = gained-is p (s .blocks) at (viewOf s) (c .args .advancing) (x .0) (x .1) (c .in-Ok .asked) (c .counts-advances .ensures .advances) (c .counts-advances .ensures .tries) (c .standing-at-self .result) (take (s .blocks + 1) wrote) (subst (λ w. Won (p .rows) (s .blocks) (trialAt p (s .blocks) at) w (c .in-Ok .asked)) (sym (c .standing-at-self .ensures)) h) cut;
       answer = h .reached;
       kept = (c .trial-outcome .ensures .same, refl, refl);
       puts = subst (λ m. Trail (g .C·Cost .put) (s .cost) (trialTo p m at (s .blocks) .questions) (c .trial-outcome .last .cost)) rows (c .trial-outcome .ensures .puts);

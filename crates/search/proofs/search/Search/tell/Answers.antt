@@ -1,4 +1,4 @@
-use mathlib.Core.Path.{_≡_, ap}
+use mathlib.Core.Path.{ap}
 use Rattle.search.specs.declared.report.State.{State}
 use Rattle.search.specs.declared.report.Report.{Report}
 use Rattle.search.specs.Of.{viewOf}

@@ -1,9 +1,8 @@
-use mathlib.Core.Path.{_≡_, refl, sym, ap, subst, _∙_}
-use Rattle.std.specs.declared.option.Option.{Option}
+use mathlib.Core.Path.{_≡_}
 use Rattle.std.specs.declared.option.Option.the-variants.{None}
 use Rattle.search.specs.Answers.{openRefusal}
 use Rattle.search.proofs.Whole.{opens, ran-law, agree-ran, both-are}
-use Rattle.search.proofs.run.compare.Needs as need
+use Rattle.search.proofs.run.both_runs.Needs as need
 
 pub returns : need.returns
 returns g c =
@@ -12,8 +11,8 @@ returns g c =
     let q = g .D·Cost .price (a .second) in
     let one = c .run-through-first .ensures in
     let two = c .run-through-second .ensures in
-    let fine : openRefusal (a .blocks) (a .first-ceiling) ≡ None = sym (c .refusal .ensures) ∙ c .in-rest .is in
-    let fine' : openRefusal (a .blocks) (a .second-ceiling) ≡ None = sym (c .refusal-2 .ensures) ∙ c .in-rest-refusal .is in
+    let fine : openRefusal (a .blocks) (a .first-ceiling) ≡ None = c .pre .first-opens in
+    let fine' : openRefusal (a .blocks) (a .second-ceiling) ≡ None = c .pre .second-opens in
     let h = opens (a .blocks) (a .first-ceiling) fine in
     let h' = opens (a .blocks) (a .second-ceiling) fine' in
     record {
