@@ -5,7 +5,7 @@ ghost use lib.ListN.{getD, length};
 ghost use mathlib.Core.Path.{_≡_};
 
 /// The first row of a block of the even cut: so many of the rows as blocks are before it.
-pub fn boundary(rows: u32, blocks: u32, block: u32) -> u32
+pub(crate) fn boundary(rows: u32, blocks: u32, block: u32) -> u32
     requires { ⌜ 0 < blocks ⌝ ∗ ⌜ block ≤ blocks ⌝ }
     ensures { λ r. ⌜ r ≡ rows * block / blocks ⌝ }
 {
