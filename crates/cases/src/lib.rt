@@ -1,5 +1,7 @@
 //! Examples and limits, run: the sample matrix, the smallest and the largest patterns, each refusal at the last value
 //! that is taken and the first that is declined, and a pattern written by a stranger.
+#![tactic(auto)]
+
 #[cfg(test)]
 mod bring;
 #[cfg(test)]

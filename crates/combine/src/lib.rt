@@ -1,4 +1,6 @@
 //! Costs made of costs: two costs added, the greater of two, so many times a cost, and a cost with a limit on another.
+#![tactic(auto)]
+
 mod figures;
 mod greater;
 mod greater_answers;

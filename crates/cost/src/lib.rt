@@ -1,4 +1,6 @@
 //! What blocks of rows cost: the interface that every cost meets, and its law.
+#![tactic(auto)]
+
 ghost use Rattle.std.specs.Prelude.{ℕ, min, ◌≡◌};
 ghost use Rattle.cost.specs.Price.{Lawful, Price, asked};
 

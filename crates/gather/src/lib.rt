@@ -1,4 +1,6 @@
 //! The bits of a word at the set bits of another, brought together.
+#![tactic(auto)]
+
 mod masks;
 mod moving;
 mod words;

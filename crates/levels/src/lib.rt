@@ -1,4 +1,6 @@
 //! Levels of bit planes over a list of numbers: written in memory that is lent, checked, and counted with.
+#![tactic(auto)]
+
 mod arranging;
 mod checking;
 mod counting;

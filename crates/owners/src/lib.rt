@@ -1,4 +1,6 @@
 //! Who owns each column of a matrix.
+#![tactic(auto)]
+
 mod lookup;
 mod owners;
 

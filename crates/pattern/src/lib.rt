@@ -1,4 +1,6 @@
 //! Sparsity patterns: where the entries of a matrix stand.
+#![tactic(auto)]
+
 ghost use Rattle.std.specs.Prelude.{◌≡◌, ℕ};
 ghost use Rattle.pattern.specs.Sparsity.{Lawful, Sparsity, column_at, entries_between, entry_count, row_count};
 

@@ -1,5 +1,7 @@
 //! Plays runs of the search over machines of unequal speed: one run a line of standard input, and its answers one a line of
 //! standard output.
+#![tactic(auto)]
+
 mod script;
 
 use anyhow::anyhow;

@@ -1,4 +1,6 @@
 //! Costs over patterns.
+#![tactic(auto)]
+
 mod counted;
 mod counted_answers;
 mod footprint;

@@ -1,4 +1,6 @@
 //! Why a call is declined: one closed list of reasons, each with its number and a sentence.
+#![tactic(auto)]
+
 ghost use Rattle.refusal.specs.Numbers.{number_of};
 ghost use Rattle.std.specs.Prelude.{◌≡◌};
 

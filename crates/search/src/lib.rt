@@ -1,4 +1,6 @@
 //! Cuts of rows into blocks, and the search for the one whose costliest block costs least.
+#![tactic(auto)]
+
 pub mod call;
 pub mod digits;
 mod halving;

@@ -1,4 +1,6 @@
 //! The stored pattern: compressed sparse rows that own their lists, checked once and for good.
+#![tactic(auto)]
+
 mod answers;
 mod check;
 mod lists;

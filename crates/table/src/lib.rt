@@ -1,4 +1,6 @@
 //! Counting tables: what a table of a pattern is, how one is filled, and how one is checked.
+#![tactic(auto)]
+
 mod checking;
 mod filling;
 mod opened;

@@ -1,5 +1,7 @@
 //! A tour: a small matrix is checked, an even cut of its rows is priced by each cost, the cheapest cut is searched for, and
 //! damaged copies of the matrix are refused; then a grid.
+#![tactic(auto)]
+
 mod costs;
 mod even;
 mod searching;

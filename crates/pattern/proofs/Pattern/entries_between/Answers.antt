@@ -9,10 +9,10 @@ loop-row-preserved g c =
     let a = min c.args.from c.min-end.result in
     let row = c.loop-row.row in
     let e = entries_more s a row (omega arith) (omega arith) in
-    omega (arith, e, c.loop-row.invariant, c.entry-count-entries.ensures)
+    omega (arith, e, c.loop-row.invariant, c.entry_count-entries.ensures)
 
-pub overflow-add-entries : goal.overflow-add-entries
-overflow-add-entries g c =
+pub overflow_add-entries : goal.overflow_add-entries
+overflow_add-entries g c =
     let s = g.Self.Pattern.sparsity c.args.self.now in
     let few = entries_few s (g.met.Self.Pattern.lawful c.args.self.now) (min c.args.from c.min-end.result) (c.loop-row.row + 1) in
     omega (arith, few, loop-row-preserved g c)
