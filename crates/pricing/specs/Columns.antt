@@ -1,10 +1,9 @@
 -- The costs that count the columns of a block.
-use Rattle.std.specs.Prelude.{ℕ, ◌+◌, ◌-◌, ◌*◌, List}
+use Rattle.std.specs.Prelude.{ℕ, ◌+◌, ◌*◌, List}
 use Rattle.cost.specs.Price.{Price}
 use Rattle.marks.specs.Nonlocals.{nonlocal_columns}
 use Rattle.pattern.specs.Columns.{columns_and_rows, distinct_columns}
 use Rattle.pattern.specs.Sparsity.{Sparsity, row_count, row_counts}
-use Rattle.table.specs.Told.{told_distinct, told_rows, told_start}
 use Rattle.pricing.specs.Works.{work}
 
 -- work, and Q for each of the columns that `count` finds for block k over the rows from a up to, not including, b
@@ -22,10 +21,3 @@ footprint_price R E Q s = counted_price R E Q s (λ k a b. columns_and_rows s a 
 -- nonlocal: those columns that block k does not own
 abbrev pub nonlocal_price : ℕ → ℕ → ℕ → Sparsity → List ℕ → Price
 nonlocal_price R E Q s owners = counted_price R E Q s (λ k a b. nonlocal_columns s owners k a b)
-
--- counted: the same as scanned, as the words of a counting table tell it
-abbrev pub told_price : ℕ → ℕ → ℕ → List ℕ → Price
-told_price R E Q ws = record {
-  rows = told_rows ws;
-  figure = λ k a b. R * (b - a) + E * (told_start ws b - told_start ws a) + Q * told_distinct ws a b;
-}

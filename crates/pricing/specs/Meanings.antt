@@ -6,12 +6,10 @@ use Rattle.owners.specs.Lists.{list_of}
 use Rattle.pattern.specs.Sparsity.{Sparsity}
 use Rattle.marks.specs.declared.memory.Marked.{Marked}
 use Rattle.owners.specs.declared.owners.Owners.{Owners}
-use Rattle.table.specs.Openings.{words_of}
 use Rattle.stored.specs.Judged.{sparsity_of}
 use Rattle.stored.specs.declared.lists.Stored.{Stored}
-use Rattle.pricing.specs.Columns.{footprint_price, nonlocal_price, scanned_price, told_price}
+use Rattle.pricing.specs.Columns.{footprint_price, nonlocal_price, scanned_price}
 use Rattle.pricing.specs.Works.{Weight, work_price}
-use Rattle.pricing.specs.declared.counted.Counted.{Counted}
 use Rattle.pricing.specs.declared.footprint.Footprint.{Footprint}
 use Rattle.pricing.specs.declared.nonlocal.Nonlocal.{Nonlocal}
 use Rattle.pricing.specs.declared.scanned.Scanned.{Scanned}
@@ -37,6 +35,3 @@ footprint_of sparsity x = footprint_price x.weights.row x.weights.entry x.weight
 
 abbrev pub nonlocal_of : Nonlocal → Price
 nonlocal_of x = nonlocal_price x.weights.row x.weights.entry x.weights.column (marked_sparsity sparsity_of x.marked) (list_of x.owners)
-
-abbrev pub counted_of : {P : Type 0} → Counted P → Price
-counted_of x = told_price x.weights.row x.weights.entry x.weights.column (words_of x.opened)

@@ -1,8 +1,6 @@
 //! Costs over patterns.
 #![tactic(auto)]
 
-mod counted;
-mod counted_answers;
 mod footprint;
 mod footprint_answers;
 mod nonlocal;
@@ -13,7 +11,6 @@ mod weights;
 mod work;
 mod work_answers;
 
-pub use counted::Counted;
 pub use footprint::Footprint;
 pub use nonlocal::Nonlocal;
 pub use scanned::Scanned;
