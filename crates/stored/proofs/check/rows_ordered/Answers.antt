@@ -11,7 +11,7 @@ returns-then-not-row-ordered c = λ h.
     c.if-not-row-ordered.ensures (rw (row_is c.args.width c.args.starts.now c.args.columns.now c.loop-i.i (omega arith)) at (h c.loop-i.i))
 
 pub loop-i-preserved : goal.loop-i-preserved
-loop-i-preserved c = below_more _ _ c.loop-i.invariant c.if-not-row-ordered.ensures
+loop-i-preserved c = below_more _ _ c.loop-i.invariant c.if-not-row_ordered.ensures
 
 pub returns : goal.returns
 returns c = ordered_from c.args.width c.args.starts.now c.args.columns.now (λ i h. c.loop-i.invariant i (omega arith))

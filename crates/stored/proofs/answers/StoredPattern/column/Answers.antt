@@ -21,7 +21,7 @@ column-from-requires c =
 pub returns : goal.returns
 returns c =
     let s = c.args.self.now in
-    let e = c.as-slice-starts.ensures.value in
-    rw (e, c.as-slice.ensures.value) at c.column-from.ensures
+    let e = c.as_slice-starts.ensures.value in
+    rw (e, c.as_slice.ensures.value) at c.column_from.ensures
     ∙ column-at s.width (vec_items s.starts) (vec_items s.columns) s.framed s.climbing c.args.row c.args.place c.entries-in.result
     (rw e at c.entries-in.ensures.within) (rw e at c.entries-in.ensures.past) c.if-place-entries-in.false

@@ -20,10 +20,10 @@ returns c =
     let s = c.args.self.now in
     let starts = vec_items s.starts in
     let columns = vec_items s.columns in
-    let rows : c.rows-in.result ≡ length starts - 1 = rw c.as-slice-starts.ensures.value at c.rows-in.ensures in
+    let rows : c.rows_in.result ≡ length starts - 1 = rw c.as_slice-starts.ensures.value at c.rows_in.ensures in
     let height = height_is s.width starts columns in
     let to : c.min-end.result ≡ min c.args.to (row_count (sparsity_of s)) = omega arith in
     let from : c.min.result ≡ min c.args.from (min c.args.to (row_count (sparsity_of s))) = omega arith in
-    rw c.as-slice-starts.ensures.value at c.entries-from.ensures
+    rw c.as_slice-starts.ensures.value at c.entries_from.ensures
     ∙ entries_is s.width starts columns s.framed s.climbing c.min.result c.min-end.result (omega arith) (omega (arith, s.framed.0))
     ∙ rw (to, from) (entries_clipped (sparsity_of s) c.args.from c.args.to)

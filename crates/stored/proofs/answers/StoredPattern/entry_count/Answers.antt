@@ -5,6 +5,6 @@ use Rattle.stored.proofs.answers.StoredPattern.entry_count.Goals as goal
 pub returns : goal.returns
 returns c =
     let s = c.args.self.now in
-    let e = c.as-slice.ensures.value in
-    entries_at s.width (vec_items s.starts) (vec_items s.columns) s.framed s.climbing c.args.row c.entries-in.result
-    (rw e at c.entries-in.ensures.within) (rw e at c.entries-in.ensures.past)
+    let e = c.as_slice.ensures.value in
+    entries_at s.width (vec_items s.starts) (vec_items s.columns) s.framed s.climbing c.args.row c.entries_in.result
+    (rw e at c.entries_in.ensures.within) (rw e at c.entries_in.ensures.past)

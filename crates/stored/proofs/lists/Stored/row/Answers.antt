@@ -23,7 +23,7 @@ slice-bounds-result-end c =
 pub returns : goal.returns
 returns c =
     let s = c.args.self.now in
-    let e = c.as-slice.ensures.value in
-    rw c.as-slice-columns.ensures.value
-    (bounds_row s.width (vec_items s.starts) (vec_items s.columns) s.framed s.climbing c.args.row c.row-bounds-from.result
-    (rw e at c.row-bounds-from.ensures.within) (rw e at c.row-bounds-from.ensures.past))
+    let e = c.as_slice.ensures.value in
+    rw c.as_slice-columns.ensures.value
+    (bounds_row s.width (vec_items s.starts) (vec_items s.columns) s.framed s.climbing c.args.row c.row_bounds-from.result
+    (rw e at c.row_bounds-from.ensures.within) (rw e at c.row_bounds-from.ensures.past))

@@ -3,7 +3,7 @@ use Rattle.stored.proofs.lists.Unchecked.fault.Goals as goal
 
 pub returns-then-not-shaped : goal.returns-then-not-shaped
 returns-then-not-shaped c =
-    rw (← c.as-slice-starts.ensures.value, ← c.as-slice-columns.ensures.value) (judged_shape _ _ _ c.if-not-shaped.ensures)
+    rw (← c.as_slice-starts.ensures.value, ← c.as_slice-columns.ensures.value) (judged_shape _ _ _ c.if-not-shaped.ensures)
 
 pub returns-then-not-rows-ordered : goal.returns-then-not-rows-ordered
 returns-then-not-rows-ordered c =
@@ -12,5 +12,5 @@ returns-then-not-rows-ordered c =
 
 pub returns : goal.returns
 returns c =
-    rw (← c.as-slice-starts.ensures.value, ← c.as-slice-columns.ensures.value)
-    (judged_none _ _ _ c.if-not-shaped.ensures c.if-not-rows-ordered.ensures)
+    rw (← c.as_slice-starts.ensures.value, ← c.as_slice-columns.ensures.value)
+    (judged_none _ _ _ c.if-not-shaped.ensures c.if-not-rows_ordered.ensures)
