@@ -5,12 +5,12 @@ use Rattle.stored.specs.Judged.{sparsity_of}
 use Rattle.stored.specs.Rows.{height_is, climbs_to, entries_is}
 use Rattle.stored.proofs.answers.StoredPattern.entries_between.Goals as goal
 
-pub entries-from-requires : goal.entries-from-requires
-entries-from-requires c =
+pub entries_from-requires : goal.entries_from-requires
+entries_from-requires c =
     let s = c.args.self.now in
     let starts = vec_items s.starts in
-    rw c.as-slice-starts.ensures.value
-    (let rows : c.rows-in.result ≡ length starts - 1 = rw c.as-slice-starts.ensures.value at c.rows-in.ensures in
+    rw c.as_slice-starts.ensures.value
+    (let rows : c.rows_in.result ≡ length starts - 1 = rw c.as_slice-starts.ensures.value at c.rows_in.ensures in
     let from : c.min.result ≤ c.min-end.result = omega arith in
     let to : c.min-end.result < length starts = omega (arith, s.framed.0) in
     (from, (to, climbs_to starts s.climbing c.min.result c.min-end.result from to)))

@@ -1,7 +1,7 @@
 use Rattle.std.proofs.Common.{refl}
 use Rattle.stored.proofs.lists.Unchecked.check.Goals as goal
 
-pub invariant-of-result : goal.invariant-of-result
-invariant-of-result c =
+pub invariant_of-result : goal.invariant_of-result
+invariant_of-result c =
     let sound = c.in-None.ensures.passed.0 refl in
-    (sound.0.0, (sound.0.1, (sound.0.2, (sound.1, tt))))
+    record { sized = sound.0.0; framed = sound.0.1; climbing = sound.0.2; ordered = sound.1 }
