@@ -50,7 +50,7 @@ def snake(name):
 
 def main():
     antt = sorted(glob.glob("crates/*/specs/**/*.antt", recursive=True) + glob.glob("crates/*/proofs/**/*.antt", recursive=True))
-    lemmas = [p for p in antt if not p.endswith(ANSWERS)]
+    lemmas = [p for p in antt if "/specs/" in p or not p.endswith(ANSWERS)]
     sources = sorted(glob.glob("crates/*/src/**/*.rt", recursive=True))
     edits = sorted(glob.glob("crates/*/must-fail/*.edit"))
 

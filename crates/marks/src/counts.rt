@@ -22,7 +22,7 @@ fn count_row<P: Pattern>(pattern: &P, marks: &mut Marks, width: u32, row: u32, c
     requires enough { width ≤ covered marks.old }
     requires before { counted ≡ size_below width (seen marks.old) }
     ensures value { result ≡ size_below width (seen marks.new) }
-    ensures after { (c : ℕ) → c < width → seen marks.new c ≡ (seen marks.old c || among (row_at (sparsity pattern.now) row) c) }
+    ensures after { (c : ℕ) → c < width → seen marks.new c ≡ (seen marks.old c || among (row_at (P.sparsity pattern.now) row) c) }
     ensures same { covered marks.new ≡ covered marks.old }
 {
     let mut total = counted;
@@ -45,7 +45,7 @@ fn count_rows<P: Pattern>(
     requires enough { width ≤ covered marks.old }
     requires before { counted ≡ size_below width (seen marks.old) }
     ensures value { result ≡ size_below width (seen marks.new) }
-    ensures after { (c : ℕ) → c < width → seen marks.new c ≡ (seen marks.old c || among (columns_in (sparsity pattern.now) from to) c) }
+    ensures after { (c : ℕ) → c < width → seen marks.new c ≡ (seen marks.old c || among (columns_in (P.sparsity pattern.now) from to) c) }
     ensures same { covered marks.new ≡ covered marks.old }
 {
     let end = to.min(pattern.row_count());
@@ -76,7 +76,7 @@ fn count_numbers(marks: &mut Marks, width: u32, from: u32, to: u32, counted: u32
 impl<P: Pattern> Marked<P> {
     /// How many distinct columns the rows from `from` up to, not including, `to` have.
     pub fn distinct(&mut self, from: u32, to: u32) -> u32
-        ensures value { result ≡ distinct_columns (marked_sparsity sparsity self.old) from to }
+        ensures value { result ≡ distinct_columns (marked_sparsity P.sparsity self.old) from to }
         ensures same { (self.new.pattern ≡ self.old.pattern) × (self.new.width ≡ self.old.width) }
     {
         let width = self.width;
@@ -86,7 +86,7 @@ impl<P: Pattern> Marked<P> {
 
     /// How large the union of those columns and of the numbers of those rows is.
     pub fn union(&mut self, from: u32, to: u32) -> u32
-        ensures value { result ≡ columns_and_rows (marked_sparsity sparsity self.old) from to }
+        ensures value { result ≡ columns_and_rows (marked_sparsity P.sparsity self.old) from to }
         ensures same { (self.new.pattern ≡ self.old.pattern) × (self.new.width ≡ self.old.width) }
     {
         let width = self.width;

@@ -10,8 +10,8 @@ impl<P: Pattern> Marked<P> {
     /// The pattern with a mark for each of its columns. Only want of memory is an error, and there is none where the marks
     /// that are brought suffice.
     pub fn new(pattern: P, marks: Marks) -> Result<Marked<P>, Unmarked<P>>
-        ensures cases { elim result [ Ok m ↦ (marked_sparsity sparsity m ≡ sparsity pattern) × (m.pattern ≡ pattern) | Err u ↦ (u.pattern ≡ pattern) × SameMarks marks u.marks ] }
-        ensures succeeds { (sparsity pattern).column_count ≤ covered marks → is_ok result ≡ true }
+        ensures cases { elim result [ Ok m ↦ (marked_sparsity P.sparsity m ≡ P.sparsity pattern) × (m.pattern ≡ pattern) | Err u ↦ (u.pattern ≡ pattern) × SameMarks marks u.marks ] }
+        ensures succeeds { (P.sparsity pattern).column_count ≤ covered marks → is_ok result ≡ true }
     {
         let mut marks = marks;
         let width = pattern.column_count();
@@ -38,7 +38,7 @@ impl<P: Pattern> Marked<P> {
 
     /// How many rows the pattern has.
     pub fn row_count(&self) -> u32
-        ensures { result ≡ row_count (marked_sparsity sparsity self.now) }
+        ensures { result ≡ row_count (marked_sparsity P.sparsity self.now) }
     {
         self.pattern.row_count()
     }
@@ -52,14 +52,14 @@ impl<P: Pattern> Marked<P> {
 
     /// How many entries the rows from `from` up to, not including, `to` have.
     pub fn entries_between(&self, from: u32, to: u32) -> u32
-        ensures { result ≡ entries_between (marked_sparsity sparsity self.now) from to }
+        ensures { result ≡ entries_between (marked_sparsity P.sparsity self.now) from to }
     {
         self.pattern.entries_between(from, to)
     }
 
     /// Whether there are as many columns as rows.
     pub fn is_square(&self) -> bool
-        ensures { MatchBool result (Square (marked_sparsity sparsity self.now)) (Square (marked_sparsity sparsity self.now) → ⊥) }
+        ensures { MatchBool result (Square (marked_sparsity P.sparsity self.now)) (Square (marked_sparsity P.sparsity self.now) → ⊥) }
     {
         self.row_count() == self.column_count()
     }

@@ -16,7 +16,7 @@ impl<P: Pattern> Footprint<P> {
     /// The cost at these weights; one above 1,000,000 and a pattern that is not square are refused, and the pattern with
     /// its marks is the caller's again.
     pub fn new(marked: Marked<P>, weights: Weights) -> Result<Footprint<P>, Declined<Marked<P>>>
-        ensures { elim result [ Ok x ↦ Fit weights × Square (marked_sparsity sparsity marked) × (footprint_of sparsity x ≡ footprint_price weights.row weights.entry weights.column (marked_sparsity sparsity marked)) × (x.marked ≡ marked) | Err d ↦ (d.reason ≡ OutOfRange) × (Fit weights × Square (marked_sparsity sparsity marked) → ⊥) × (d.brought ≡ marked) ] }
+        ensures { elim result [ Ok x ↦ Fit weights × Square (marked_sparsity P.sparsity marked) × (footprint_of P.sparsity x ≡ footprint_price weights.row weights.entry weights.column (marked_sparsity P.sparsity marked)) × (x.marked ≡ marked) | Err d ↦ (d.reason ≡ OutOfRange) × (Fit weights × Square (marked_sparsity P.sparsity marked) → ⊥) × (d.brought ≡ marked) ] }
     {
         if !weights.fit() || !marked.is_square() {
             return Err(Declined {

@@ -15,7 +15,7 @@ use refusal::{Declined, Refusal};
 impl<P: Pattern> Scanned<P> {
     /// The cost at these weights; one above 1,000,000 is refused, and the pattern with its marks is the caller's again.
     pub fn new(marked: Marked<P>, weights: Weights) -> Result<Scanned<P>, Declined<Marked<P>>>
-        ensures { elim result [ Ok x ↦ Fit weights × (scanned_of sparsity x ≡ scanned_price weights.row weights.entry weights.column (marked_sparsity sparsity marked)) × (x.marked ≡ marked) | Err d ↦ (d.reason ≡ OutOfRange) × (Fit weights → ⊥) × (d.brought ≡ marked) ] }
+        ensures { elim result [ Ok x ↦ Fit weights × (scanned_of P.sparsity x ≡ scanned_price weights.row weights.entry weights.column (marked_sparsity P.sparsity marked)) × (x.marked ≡ marked) | Err d ↦ (d.reason ≡ OutOfRange) × (Fit weights → ⊥) × (d.brought ≡ marked) ] }
     {
         if !weights.fit() {
             return Err(Declined {

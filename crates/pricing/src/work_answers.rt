@@ -20,7 +20,7 @@ fn work(row_weight: u32, entry_weight: u32, rows: u32, entries: u32) -> u64
 impl<P: Pattern> Work<P> {
     /// The work over a pattern; a weight above 1,000,000 is refused, and the pattern is the caller's again.
     pub fn new(pattern: P, row_weight: u32, entry_weight: u32) -> Result<Work<P>, Declined<P>>
-        ensures { elim result [ Ok w ↦ Weight row_weight × Weight entry_weight × (work_of sparsity w ≡ work_price row_weight entry_weight (sparsity pattern)) × (w.pattern ≡ pattern) | Err d ↦ (d.reason ≡ OutOfRange) × (Weight row_weight × Weight entry_weight → ⊥) × (d.brought ≡ pattern) ] }
+        ensures { elim result [ Ok w ↦ Weight row_weight × Weight entry_weight × (work_of P.sparsity w ≡ work_price row_weight entry_weight (P.sparsity pattern)) × (w.pattern ≡ pattern) | Err d ↦ (d.reason ≡ OutOfRange) × (Weight row_weight × Weight entry_weight → ⊥) × (d.brought ≡ pattern) ] }
     {
         if row_weight > 1_000_000 || entry_weight > 1_000_000 {
             return Err(Declined {

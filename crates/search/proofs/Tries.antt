@@ -10,7 +10,7 @@ use Rattle.search.specs.declared.report.Report.{Report}
 use Rattle.search.specs.Trial.{succeeds}
 use Rattle.search.specs.Play.{View, trial_at, tried, try_makes, play}
 use Rattle.search.specs.Reports.{report_of}
-use Rattle.search.specs.Answers.{tryAnswer, Told}
+use Rattle.search.specs.Answers.{try_answer, Told}
 use Rattle.search.specs.Of.{view_of, Ran, Follows}
 use Rattle.search.proofs.Sounds.{Sound, trial_stands, trial_low, trial_none}
 use Rattle.search.proofs.Every.{counted_play}
@@ -29,18 +29,18 @@ module _ (p : Price) (lawful : Lawful p) (K C : ℕ) (small : K < 2 ^ 32) (c : �
         (λ e. absurd (omega (arith, sound.none e)))
         (cases_Bool s.stands)
 
-    try_tells : Told p K c (tryAnswer p K C c s)
+    try_tells : Told p K c (try_answer p K C c s)
     try_tells =
         cond_both (ltb C c) _ _ (Told p K c) (λ _. tt)
         (λ h1. cond_both (ltb c s.floor) _ _ (Told p K c) (λ h cut is. omega (arith, ltb-true c s.floor h, sound.below cut is))
         (λ _. cond_both (leb s.figure c) _ _ (Told p K c) (λ h. stands_yes (leb-true s.figure c h) (ltb-false C c h1))
         (λ _. cond_both (ltb s.tries 65535) _ _ (Told p K c) (λ _. trial_tells (succeeds p.rows K (trial_at p K c)) (report_of (tried p K c false s)) refl) (λ _. tt))))
 
-  told : (calls : List Call) (s : View) → s ≡ play p K C calls → Told p K c (tryAnswer p K C c s)
+  told : (calls : List Call) (s : View) → s ≡ play p K C calls → Told p K c (try_answer p K C c s)
   told calls s ran = try_tells s (subst (Sound p K C) (sym ran) (counted_play p lawful K C small calls).sound)
 
 module _ {C : Type 0} (price : C → Price) (put : C → ℕ → ℕ → ℕ → C → Type 0) (s : Search C) (law : Lawful (price s.cost)) (c : ℕ) where
-  pub told_of : (r : Result (Bool × Report) Refusal) → r ≡ tryAnswer (price s.cost) s.blocks s.ceiling c (view_of s) → (calls : List Call) → Ran price s calls → Told (price s.cost) s.blocks c r
+  pub told_of : (r : Result (Bool × Report) Refusal) → r ≡ try_answer (price s.cost) s.blocks s.ceiling c (view_of s) → (calls : List Call) → Ran price s calls → Told (price s.cost) s.blocks c r
   told_of r e calls ran =
       let small : s.blocks < 2 ^ 32 = omega (arith, s.shape.1) in
       subst (Told (price s.cost) s.blocks c) (sym e) (told (price s.cost) law s.blocks s.ceiling small c calls (view_of s) ran)

@@ -15,7 +15,7 @@ use Rattle.search.specs.declared.played.Unopened.{Unopened}
 use Rattle.search.specs.Trial.{succeeds}
 use Rattle.search.specs.Play.{View, start, trial_at, gained, lost, tried, halfway, advanced, advance_asks, advance_ok, try_makes, step, call_asks, plays, play}
 use Rattle.search.specs.Reports.{report_of}
-use Rattle.search.specs.Answers.{openRefusal, advanceAnswer, tryAnswer, taken}
+use Rattle.search.specs.Answers.{open_refusal, advance_answer, try_answer, taken}
 use Rattle.search.specs.Law.{Law, standing, Agree}
 use Rattle.search.specs.Runs.{answer_of, last_answer, run_asks, placed, boundaries_of, played_of, report_in, declines, idle, busy, RunLaw, both_or, compared_of}
 use Rattle.search.proofs.Sounds.{trial_low}
@@ -44,7 +44,7 @@ module _ (p : Price) (K C : ℕ) (s : View) where
   abbrev Fits : Answer → View → Type 0
   Fits a t = ((r : Report) → report_in a ≡ Some r → r ≡ report_of t) × (declines a ≡ true → t ≡ s)
 
-  fits_advance : (n : ℕ) → Fits (Advanced (advanceAnswer p K n s)) (step p K C (Advance n) s)
+  fits_advance : (n : ℕ) → Fits (Advanced (advance_answer p K n s)) (step p K C (Advance n) s)
   fits_advance n =
       cond_both (advance_ok n) (Ok (report_of (advanced p K n s))) (Err refusal.Count) (λ a. Fits (Advanced a) (step p K C (Advance n) s))
       (λ h. (λ r e. sym (report_one (report_of (advanced p K n s)) r e) ∙ ap report_of (advance_taken p K C s n h), λ e. absurd (true≢false (sym e))))
@@ -56,7 +56,7 @@ module _ (p : Price) (K C : ℕ) (s : View) where
   refuses : (c : ℕ) (x : Refusal) → try_makes C s c ≡ false → Fits (Tried (Err x)) (step p K C (Try c) s)
   refuses c x h = (λ r e. absurd (report_none r e), λ _. sym (try_declined p K C s c h))
 
-  fits_try : (c : ℕ) → Fits (Tried (tryAnswer p K C c s)) (step p K C (Try c) s)
+  fits_try : (c : ℕ) → Fits (Tried (try_answer p K C c s)) (step p K C (Try c) s)
   fits_try c =
       cond_both (ltb C c) _ _ (λ a. Fits (Tried a) (step p K C (Try c) s))
       (λ h. refuses c refusal.Ceiling (too-high C c s (ltb-true C c h)))
@@ -255,7 +255,7 @@ pair_is : (x x' y y' : Played) → x ≡ x' → y ≡ y' → ◌≡◌ {A = Play
 pair_is x x' y y' e e' = cc
 
 -- what may be opened
-pub opens : (K C : ℕ) → openRefusal K C ≡ None → (K ≤ 1024) × (C < 2 ^ 60)
+pub opens : (K C : ℕ) → open_refusal K C ≡ None → (K ≤ 1024) × (C < 2 ^ 60)
 opens K C e =
     ⊎_elim
     (λ a. ⊎_elim
@@ -266,8 +266,8 @@ opens K C e =
     (cases_Bool (leb 1 K && leb K 1024))
 
 -- both runs are played
-pub both_are : (p q : Price) (K C : ℕ) (calls : List Call) (D : ℕ) (others : List Call) → openRefusal K C ≡ None → openRefusal K D ≡ None → (x y : Played) → x ≡ played_of p K C calls → y ≡ played_of q K D others → ◌≡◌ {A = Result (Played × Played) Unopened} (Ok (x, y)) (compared_of p q K C calls D others)
+pub both_are : (p q : Price) (K C : ℕ) (calls : List Call) (D : ℕ) (others : List Call) → open_refusal K C ≡ None → open_refusal K D ≡ None → (x y : Played) → x ≡ played_of p K C calls → y ≡ played_of q K D others → ◌≡◌ {A = Result (Played × Played) Unopened} (Ok (x, y)) (compared_of p q K C calls D others)
 both_are p q K C calls D others f f' x y e e' =
     let two : ◌≡◌ {A = Played × Played} (x, y) (played_of p K C calls, played_of q K D others) = pair_is x (played_of p K C calls) y (played_of q K D others) e e' in
     ap (λ (z : Played × Played). Ok z) two
-    ∙ sym (ap (λ o. both_or o (openRefusal K D) (played_of p K C calls, played_of q K D others)) f ∙ ap (λ o. both_or None o (played_of p K C calls, played_of q K D others)) f')
+    ∙ sym (ap (λ o. both_or o (open_refusal K D) (played_of p K C calls, played_of q K D others)) f ∙ ap (λ o. both_or None o (played_of p K C calls, played_of q K D others)) f')

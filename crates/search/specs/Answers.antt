@@ -10,24 +10,24 @@ use Rattle.search.specs.Play.{View, trial_at, tried, advanced, advance_ok}
 use Rattle.search.specs.Reports.{report_of}
 
 -- why no search is opened: first the number of blocks, then the ceiling
-abbrev pub openRefusal : ℕ → ℕ → Option Refusal
-openRefusal K C = cond (nat_le 1 K && nat_le K 1024) (cond (nat_lt C (2 ^ 60)) None (Some refusal.Ceiling)) (Some refusal.Blocks)
+abbrev pub open_refusal : ℕ → ℕ → Option Refusal
+open_refusal K C = cond (nat_le 1 K && nat_le K 1024) (cond (nat_lt C (2 ^ 60)) None (Some refusal.Ceiling)) (Some refusal.Blocks)
 
 -- the report after the trials
-abbrev pub advanceAnswer : Price → ℕ → ℕ → View → Result Report Refusal
-advanceAnswer p K n s = cond (advance_ok n) (Ok (report_of (advanced p K n s))) (Err refusal.Count)
+abbrev pub advance_answer : Price → ℕ → ℕ → View → Result Report Refusal
+advance_answer p K n s = cond (advance_ok n) (Ok (report_of (advanced p K n s))) (Err refusal.Count)
 
 -- below the floor no, from the standing figure on yes, and between them what a trial says, if tries are left
-abbrev pub tryAnswer : Price → ℕ → ℕ → ℕ → View → Result (Bool × Report) Refusal
-tryAnswer p K C c s =
+abbrev pub try_answer : Price → ℕ → ℕ → ℕ → View → Result (Bool × Report) Refusal
+try_answer p K C c s =
     cond (nat_lt C c) (Err refusal.Ceiling)
     (cond (nat_lt c s.floor) (Ok (false, report_of s))
     (cond (nat_le s.figure c) (Ok (true, report_of s))
     (cond (nat_lt s.tries 65535) (Ok (succeeds p.rows K (trial_at p K c), report_of (tried p K c false s))) (Err refusal.Count))))
 
 -- of a take into a buffer of so many places
-abbrev pub takeAnswer : ℕ → View → ℕ → Result (Unit {0}) Refusal
-takeAnswer K s places = cond s.stands (cond (nat_lt places (K + 1)) (Err refusal.Short) (Ok tt)) (Err refusal.NoCut)
+abbrev pub take_answer : ℕ → View → ℕ → Result (Unit {0}) Refusal
+take_answer K s places = cond s.stands (cond (nat_lt places (K + 1)) (Err refusal.Short) (Ok tt)) (Err refusal.NoCut)
 
 -- what the buffer then holds
 abbrev pub taken : ℕ → View → List ℕ → List ℕ

@@ -8,7 +8,7 @@ use Rattle.search.specs.declared.report.Report.{Report}
 use Rattle.search.specs.Trails.{Trail}
 use Rattle.search.specs.Play.{View, start, step, call_asks, play}
 use Rattle.search.specs.Reports.{report_of}
-use Rattle.search.specs.Answers.{openRefusal}
+use Rattle.search.specs.Answers.{open_refusal}
 use Rattle.search.specs.Law.{Law, standing}
 
 module _ {C : Type 0} where
@@ -30,7 +30,7 @@ module _ {C : Type 0} where
 
   -- a new search
   pub record Opened (price : C → Price) (cost : C) (K M : ℕ) (s : Search C) : Type 0 where
-    pub accepted : openRefusal K M ≡ None
+    pub accepted : open_refusal K M ≡ None
     pub cost_is : s.cost ≡ cost
     pub blocks_are : s.blocks ≡ K
     pub ceiling_is : s.ceiling ≡ M

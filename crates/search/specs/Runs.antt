@@ -13,14 +13,14 @@ use Rattle.search.specs.declared.played.Unopened.{Unopened}
 use Rattle.search.specs.Trails.{Question}
 use Rattle.search.specs.Play.{View, start, step, call_asks, play}
 use Rattle.search.specs.Reports.{report_of}
-use Rattle.search.specs.Answers.{openRefusal, advanceAnswer, tryAnswer, takeAnswer, taken}
+use Rattle.search.specs.Answers.{open_refusal, advance_answer, try_answer, take_answer, taken}
 use Rattle.search.specs.Law.{Law, standing}
 
 -- what a call answers; a take has at most 1,025 places
 abbrev pub answer_of : Price → ℕ → ℕ → Call → View → Answer
-answer_of p K C (Advance n) s = Advanced (advanceAnswer p K n s)
-answer_of p K C (Try c) s = Tried (tryAnswer p K C c s)
-answer_of p K C (Take places) s = Taken (takeAnswer K s (min places 1025))
+answer_of p K C (Advance n) s = Advanced (advance_answer p K n s)
+answer_of p K C (Try c) s = Tried (try_answer p K C c s)
+answer_of p K C (Take places) s = Taken (take_answer K s (min places 1025))
 answer_of p K C Tell s = Told (report_of s)
 
 -- the answer to the last of the calls, or the given one where there is no call
@@ -109,4 +109,4 @@ both_or None None both = Ok both
 
 -- what the comparison of two runs comes to
 abbrev pub compared_of : Price → Price → ℕ → ℕ → List Call → ℕ → List Call → Result (Played × Played) Unopened
-compared_of p q K C calls D others = both_or (openRefusal K C) (openRefusal K D) (played_of p K C calls, played_of q K D others)
+compared_of p q K C calls D others = both_or (open_refusal K C) (open_refusal K D) (played_of p K C calls, played_of q K D others)

@@ -1,6 +1,6 @@
 // Whole runs, played through the calls of real searches.
 ghost use Rattle.std.specs.Prelude.{◌≡◌, min, Some, None, Ok, Err};
-ghost use Rattle.search.specs.Answers.{openRefusal, takeAnswer};
+ghost use Rattle.search.specs.Answers.{open_refusal, take_answer};
 ghost use Rattle.search.specs.Compared.{BothLaws, Returned};
 ghost use Rattle.search.specs.Of.{Follows, view_of};
 ghost use Rattle.search.specs.Play.{start};
@@ -16,7 +16,7 @@ use refusal::Refusal;
 /// A take into so many places, of which 1,025 count at most.
 fn take_into<C: Cost>(search: &mut Search<C>, places: u32) -> Result<(), Refusal>
     ensures unchanged { search.new ≡ search.old }
-    ensures answer { result ≡ takeAnswer search.old.blocks (view_of search.old) (min places 1025) }
+    ensures answer { result ≡ take_answer search.old.blocks (view_of search.old) (min places 1025) }
 {
     let mut out = [0; 1025];
     let places = places.min(1025) as usize;
@@ -50,7 +50,7 @@ fn play_one<C: Cost>(search: &mut Search<C>, call: Call) -> Answer
 
 /// A run of which the search can be opened: what it comes to, and the cost back.
 fn run_through<C: Cost>(cost: C, blocks: u32, ceiling: u64, calls: &[Call]) -> (Played, C)
-    requires { openRefusal blocks ceiling ≡ None }
+    requires { open_refusal blocks ceiling ≡ None }
     ensures exact { result.0 ≡ played_of (price cost) blocks ceiling calls.now }
     ensures same { price result.1 ≡ price cost }
     ensures puts { Trail put cost (run_asks (price cost) blocks ceiling calls.now (start ceiling)) result.1 }
@@ -75,8 +75,8 @@ fn both_runs<C: Cost, D: Cost>(
     second_ceiling: u64,
     second_calls: &[Call],
 ) -> (Played, Played, C, D)
-    requires first_opens { openRefusal blocks first_ceiling ≡ None }
-    requires second_opens { openRefusal blocks second_ceiling ≡ None }
+    requires first_opens { open_refusal blocks first_ceiling ≡ None }
+    requires second_opens { open_refusal blocks second_ceiling ≡ None }
     ensures law { BothLaws (C.Cost.price first) (D.Cost.price second) blocks first_ceiling first_calls.now second_ceiling second_calls.now (Ok (result.0, result.1)) }
     ensures exact { Ok (result.0, result.1) ≡ compared_of (C.Cost.price first) (D.Cost.price second) blocks first_ceiling first_calls.now second_ceiling second_calls.now }
     ensures first_back { Returned C.Cost.price C.Cost.put blocks first_ceiling first_calls.now first result.2 (Ok (result.0, result.1)) }

@@ -1,6 +1,6 @@
 // The calls of a search.
 ghost use Rattle.std.specs.Prelude.{◌≡◌, ◌+◌, ◌^◌, ◌<◌, ◌≤◌, true, false, ◌&&◌, ltb, List, length, if◌then◌else◌, Some, None, Ok, Err, nat_le, nat_lt};
-ghost use Rattle.search.specs.Answers.{Told, advanceAnswer, openRefusal, takeAnswer, taken, tryAnswer};
+ghost use Rattle.search.specs.Answers.{Told, advance_answer, open_refusal, take_answer, taken, try_answer};
 ghost use Rattle.search.specs.Of.{AfterAdvance, AfterTry, Follows, LawAt, Opened, Ran, view_of};
 ghost use Rattle.search.specs.Play.{AdvanceSplits, Fair, advance_ok, halfway, tried, trial_at, try_makes};
 ghost use Rattle.search.specs.Reports.{report_of, state_of};
@@ -49,7 +49,7 @@ fn advances_by(n: u32) -> bool
 impl<C: Cost> Search<C> {
     /// Why no search is opened with so many blocks and this ceiling, if there is a reason.
     pub fn refusal(cost: &C, blocks: u32, ceiling: u64) -> Option<Refusal>
-        ensures { result ≡ openRefusal blocks ceiling }
+        ensures { result ≡ open_refusal blocks ceiling }
     {
         let _ = cost;
         if blocks == 0 || blocks > 1024 {
@@ -63,7 +63,7 @@ impl<C: Cost> Search<C> {
 
     /// A new search, where nothing speaks against it.
     pub(crate) fn begin(cost: C, blocks: u32, ceiling: u64) -> Search<C>
-        requires { openRefusal blocks ceiling ≡ None }
+        requires { open_refusal blocks ceiling ≡ None }
         ensures { Opened price cost blocks ceiling result }
     {
         Search {
@@ -82,7 +82,7 @@ impl<C: Cost> Search<C> {
 
     /// A new search over a cost, for so many blocks and up to this ceiling; declined, it gives the cost back.
     pub fn open(cost: C, blocks: u32, ceiling: u64) -> Result<Search<C>, Declined<C>>
-        ensures { elim result [ Ok s ↦ Opened price cost blocks ceiling s | Err e ↦ (openRefusal blocks ceiling ≡ Some e.reason) × (e.brought ≡ cost) ] }
+        ensures { elim result [ Ok s ↦ Opened price cost blocks ceiling s | Err e ↦ (open_refusal blocks ceiling ≡ Some e.reason) × (e.brought ≡ cost) ] }
     {
         match Search::refusal(&cost, blocks, ceiling) {
             Some(reason) => Err(Declined {
@@ -190,7 +190,7 @@ impl<C: Cost> Search<C> {
     /// report.
     pub fn advance(&mut self, n: u32) -> Result<Report, Refusal>
         ensures follows { Follows price put (Call.Advance n) self.old self.new }
-        ensures answer { result ≡ advanceAnswer (price self.old.cost) self.old.blocks n (view_of self.old) }
+        ensures answer { result ≡ advance_answer (price self.old.cost) self.old.blocks n (view_of self.old) }
         ensures after { AfterAdvance price self.old self.new result }
         ensures splits { AdvanceSplits (price self.old.cost) self.old.blocks (view_of self.old) }
     {
@@ -237,7 +237,7 @@ impl<C: Cost> Search<C> {
     /// Whether some cut costs c or less, and the report: known, or found by a trial at c.
     pub fn try_at(&mut self, c: u64) -> Result<(bool, Report), Refusal>
         ensures follows { Follows price put (Call.Try c) self.old self.new }
-        ensures answer { result ≡ tryAnswer (price self.old.cost) self.old.blocks self.old.ceiling c (view_of self.old) }
+        ensures answer { result ≡ try_answer (price self.old.cost) self.old.blocks self.old.ceiling c (view_of self.old) }
         ensures after { AfterTry price self.old self.new result }
         ensures unchanged { try_makes self.old.ceiling (view_of self.old) c ≡ false → self.new ≡ self.old }
         ensures told { (calls : List Call) → Ran price self.old calls → Told (price self.old.cost) self.old.blocks c result }
@@ -261,7 +261,7 @@ impl<C: Cost> Search<C> {
     /// The boundaries of the standing cut, to the front of `out`; later places keep what they held.
     pub fn take(&mut self, out: &mut [u32]) -> Result<(), Refusal>
         ensures unchanged { self.new ≡ self.old }
-        ensures answer { result ≡ takeAnswer self.old.blocks (view_of self.old) (length out.old) }
+        ensures answer { result ≡ take_answer self.old.blocks (view_of self.old) (length out.old) }
         ensures written { out.new ≡ taken self.old.blocks (view_of self.old) out.old }
     {
         if !self.stands {

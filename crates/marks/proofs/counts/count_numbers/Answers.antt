@@ -14,8 +14,8 @@ loop-row-preserved c =
       λ k h. e.after k h ∙ then_number (seen before k) (seen l.marks k) (min c.args.from c.min-end.result) l.row k (omega arith) (l.invariant.2 k h),
     )
 
-pub overflow-add-total : goal.overflow-add-total
-overflow-add-total c = omega (arith, (loop-row-preserved c).1, size_le c.args.width (seen c.sees-fresh.new.marks))
+pub overflow_add-total : goal.overflow_add-total
+overflow_add-total c = omega (arith, (loop-row-preserved c).1, size_le c.args.width (seen c.sees-fresh.new.marks))
 
 pub loop-row-init : goal.loop-row-init
 loop-row-init c =

@@ -21,8 +21,8 @@ loop-place-preserved g c =
       λ k h. e.after k h ∙ then_take (seen before k) (seen l.marks k) row l.place x s.column_count k place c.column.ensures (l.invariant.2 k h),
     )
 
-pub overflow-add-total : goal.overflow-add-total
-overflow-add-total g c =
+pub overflow_add-total : goal.overflow_add-total
+overflow_add-total g c =
     omega (arith, (loop-place-preserved g c).1, size_le c.args.width (seen c.sees-fresh.new.marks))
 
 pub returns : goal.returns

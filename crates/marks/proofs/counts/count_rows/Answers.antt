@@ -10,7 +10,7 @@ pub loop-row-preserved : goal.loop-row-preserved
 loop-row-preserved g c =
     let s = g.P.Pattern.sparsity c.args.pattern.now in
     let l = c.loop-row in
-    let e = c.count-row-total.ensures in
+    let e = c.count_row-total.ensures in
     let from = min c.args.from c.min-end.result in
     let before = c.args.marks.now in
     let more : columns_in s from (l.row + 1) ≡ columns_in s from l.row ++ row_at s l.row = columns_more s from l.row (omega arith) (omega arith) in (

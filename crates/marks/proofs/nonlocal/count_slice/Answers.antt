@@ -19,13 +19,13 @@ loop-place-preserved c =
     let before = c.args.marks.now in
     let place : l.place < length columns = omega arith in (
       e.same ∙ l.invariant.0,
-      ap (λ v. l.total + bool_byte v) c.new-and-nonlocal-counts.ensures
+      ap (λ v. l.total + bool_byte v) c.new_and_nonlocal-counts.ensures
           ∙ seen_more_of c.args.width x l.total (seen l.marks) (seen c.sees-fresh.new.marks) mine c.sees-fresh.result l.invariant.1 e.value e.after,
       λ k h. e.after k h ∙ then_take (seen before k) (seen l.marks k) columns l.place x 0 k place refl (l.invariant.2 k h),
     )
 
-pub overflow-add-total : goal.overflow-add-total
-overflow-add-total c =
+pub overflow_add-total : goal.overflow_add-total
+overflow_add-total c =
     omega (arith, (loop-place-preserved c).1, size_le c.args.width (λ k. seen c.sees-fresh.new.marks k && not (owned_by (list_of c.args.owners.now) c.args.block k)))
 
 pub returns : goal.returns

@@ -11,7 +11,7 @@ pub loop-row-preserved : goal.loop-row-preserved
 loop-row-preserved c =
     let s = sparsity_of c.args.pattern.now in
     let l = c.loop-row in
-    let e = c.count-slice-total.ensures in
+    let e = c.count_slice-total.ensures in
     let from = min c.args.from c.min-end.result in
     let before = c.args.marks.now in
     let more : columns_in s from (l.row + 1) ≡ columns_in s from l.row ++ row_at s l.row = columns_more s from l.row (omega arith) (omega arith) in (

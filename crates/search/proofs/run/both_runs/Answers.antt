@@ -1,5 +1,5 @@
 use Rattle.std.proofs.Common.{◌≡◌, None}
-use Rattle.search.specs.Answers.{openRefusal}
+use Rattle.search.specs.Answers.{open_refusal}
 use Rattle.search.proofs.Whole.{opens, ran_law, agree_ran, both_are}
 use Rattle.search.proofs.run.both_runs.Goals as goal
 
@@ -10,8 +10,8 @@ returns g c =
     let q = g.D.Cost.price a.second in
     let one = c.run-through-first.ensures in
     let two = c.run-through-second.ensures in
-    let fine : openRefusal a.blocks a.first-ceiling ≡ None = c.requires.first-opens in
-    let fine' : openRefusal a.blocks a.second-ceiling ≡ None = c.requires.second-opens in
+    let fine : open_refusal a.blocks a.first-ceiling ≡ None = c.requires.first-opens in
+    let fine' : open_refusal a.blocks a.second-ceiling ≡ None = c.requires.second-opens in
     let h = opens a.blocks a.first-ceiling fine in
     let h' = opens a.blocks a.second-ceiling fine' in
     record {
