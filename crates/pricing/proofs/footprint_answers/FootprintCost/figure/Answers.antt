@@ -12,5 +12,5 @@ price-requires g c =
     let law = g.met.P.Pattern.lawful x.marked.pattern in
     let to : c.clip-from.result.1 ≤ row_count s = omega (arith, ap (λ v. v.1) c.clip-from.ensures) in
     parts_few x.weights.row x.weights.entry x.weights.column s x.fit law.height law.entries x.marked.narrow
-    c.clip-from.result.0 c.clip-from.result.1 c.entries-between-entries.result c.union-columns.result
-    (λ k. among (columns_in s c.clip-from.result.0 c.clip-from.result.1) k || row_number c.clip-from.result.0 c.clip-from.result.1 k) to c.entries-between-entries.ensures c.union-columns.ensures.value
+    c.clip-from.result.0 c.clip-from.result.1 c.entries_between-entries.result c.union-columns.result
+    (λ k. among (columns_in s c.clip-from.result.0 c.clip-from.result.1) k || row_number c.clip-from.result.0 c.clip-from.result.1 k) to c.entries_between-entries.ensures c.union-columns.ensures.value

@@ -16,6 +16,6 @@ price-requires c =
     let law = checked_lawful x.marked.pattern in
     let to : c.clip-from.result.1 ≤ row_count s = omega (arith, ap (λ v. v.1) c.clip-from.ensures) in
     parts_few x.weights.row x.weights.entry x.weights.column s x.fit law.height law.entries x.marked.narrow
-    c.clip-from.result.0 c.clip-from.result.1 c.entries-between-entries.result c.nonlocal-columns.result
+    c.clip-from.result.0 c.clip-from.result.1 c.entries_between-entries.result c.nonlocal-columns.result
     (λ k. among (columns_in s c.clip-from.result.0 c.clip-from.result.1) k && not (owned_by (list_of x.owners) c.args.block k))
-    to c.entries-between-entries.ensures c.nonlocal-columns.ensures.value
+    to c.entries_between-entries.ensures c.nonlocal-columns.ensures.value
