@@ -1,5 +1,5 @@
 -- Which columns runs of rows have, and how many distinct ones.
-use Rattle.std.specs.Prelude.{ℕ, zero, suc, ◌+◌, Bool, true, false, cond, ◌&&◌, ◌||◌, List, [], ◌∷◌, ◌==◌, nat_le, nat_lt}
+use Rattle.std.specs.Prelude.{ℕ, zero, suc, ◌+◌, Bool, false, cond, ◌&&◌, ◌||◌, List, [], ◌∷◌, ◌==◌, nat_le, nat_lt}
 use Rattle.std.specs.List.{between, flat_map}
 use Rattle.pattern.specs.Sparsity.{Sparsity}
 

@@ -1,9 +1,9 @@
 -- The costs over patterns keep the law.
-use Rattle.std.specs.Prelude.{◌≡◌, ℕ, ◌+◌, ◌-◌, ◌*◌, ◌<◌, ◌≤◌, min, Bool, true, false, not, ◌&&◌, ◌||◌, List, [], sum, nat_le, nat_lt, refl}
+use Rattle.std.specs.Prelude.{◌≡◌, ℕ, ◌-◌, ◌*◌, ◌<◌, ◌≤◌, Bool, true, false, not, ◌&&◌, ◌||◌, List, sum, nat_le, nat_lt}
 use Rattle.std.proofs.Common.{sym, ap, ◌∙◌, ⊎_elim, mul-le-mul, mul-le-mul_left, mul-zero, arith}
 use Rattle.std.specs.List.{between}
 use Rattle.std.proofs.lemmas.Bool.{cases_lt, and_parts, and_from, and_left, and_right, or_cases, or_from, or_left, or_right, leb-true, ltb-true, le-leb, lt-leb, lt-ltb, le-ltb}
-use Rattle.cost.specs.Price.{Block, Inside, Lawful}
+use Rattle.cost.specs.Price.{Lawful}
 use Rattle.marks.specs.Nonlocals.{nonlocal_columns}
 use Rattle.owners.specs.Owned.{owned_by}
 use Rattle.pattern.specs.Columns.{among, columns_in, columns_and_rows, distinct_columns, row_number, size_below}

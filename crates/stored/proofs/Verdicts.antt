@@ -1,5 +1,5 @@
 -- The check's answer is right in each of its three cases.
-use Rattle.std.proofs.Common.{◌≡◌, ℕ, List, Some, None, Option, sym, refl, arith}
+use Rattle.std.proofs.Common.{◌≡◌, ℕ, List, Some, None, sym, refl, arith}
 use Rattle.refusal.specs.declared.Refusal.{Refusal}
 use Rattle.refusal.specs.declared.Refusal.TheVariants.{Shape, Column}
 use Rattle.pattern.specs.Sparsity.{Ordered}

@@ -1,15 +1,15 @@
 -- Compressed sparse rows: where a row stands among the columns, how many entries runs of rows have, and the law.
-use Rattle.std.specs.Prelude.{◌≡◌, ℕ, zero, suc, ◌+◌, ◌-◌, ◌<◌, ◌≤◌, min, ◌⊎◌, List, [], ◌∷◌, map, length, take, sum, slice_index, slice_index_or, refl}
-use Rattle.std.proofs.Common.{sym, ap, subst, ◌∙◌, ⊎_elim, add-zero, le_refl, add-one, arith}
-use Rattle.std.specs.List.{range_with_len, between}
+use Rattle.std.specs.Prelude.{◌≡◌, ℕ, zero, suc, ◌+◌, ◌-◌, ◌<◌, ◌≤◌, List, [], length, take, sum, slice_index, slice_index_or}
+use Rattle.std.proofs.Common.{sym, ap, subst, ◌∙◌, ⊎_elim, add-zero, le_refl, arith}
+use Rattle.std.specs.List.{between}
 use Rattle.std.proofs.lemmas.List.FromFn.{length-map-range_with_len, get_or-map-range_with_len}
 use Rattle.std.proofs.lemmas.List.Edits.{length-between, get_or-between}
 use Rattle.std.proofs.lemmas.List.{get_or_past, get_or_default, get_or-map, length-map, take_all}
 use Rattle.std.proofs.lemmas.List.Sums.{sum_by_more}
 use Rattle.std.proofs.lemmas.Bool.{cases_lt}
-use Rattle.pattern.specs.Sparsity.{Sparsity, Lawful, RowOrdered, Ordered, row_at, row_count, row_counts, entry_count, column_at, entries_between}
+use Rattle.pattern.specs.Sparsity.{Lawful, RowOrdered, Ordered, row_at, row_count, row_counts, entry_count, column_at, entries_between}
 use Rattle.pattern.proofs.Spans.{sum_between}
-use Rattle.stored.specs.Csr.{csr, csr_row, Sized, Framed, Climbing, Shaped}
+use Rattle.stored.specs.Csr.{csr, csr_row, Sized, Framed, Climbing}
 
 -- a later start is no smaller
 climbs : (starts : List ℕ) → Climbing starts → (i d : ℕ) → i + d < length starts → slice_index starts i ≤ slice_index starts (i + d)

@@ -1,4 +1,4 @@
-use Rattle.std.proofs.Common.{◌≡◌, ◌+◌, ◌<◌, ◌≤◌, min, ◌||◌, refl, ap, ◌∙◌, arith}
+use Rattle.std.proofs.Common.{◌≡◌, min, ◌||◌, refl, ap, ◌∙◌, arith}
 use Rattle.pattern.proofs.Sets.{size_le}
 use Rattle.marks.specs.Seen.{seen}
 use Rattle.marks.proofs.Counting.{seen_more, then_number, no_number, numbers_clipped}

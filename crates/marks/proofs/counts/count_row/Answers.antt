@@ -1,6 +1,6 @@
-use Rattle.std.proofs.Common.{◌≡◌, ◌+◌, ◌<◌, ◌≤◌, ◌||◌, length, take, sym, ap, ◌∙◌, arith}
+use Rattle.std.proofs.Common.{◌≡◌, ◌<◌, ◌||◌, length, take, ap, ◌∙◌, arith}
 use Rattle.std.proofs.lemmas.List.{take_all}
-use Rattle.pattern.specs.Columns.{among, size_below}
+use Rattle.pattern.specs.Columns.{among}
 use Rattle.pattern.specs.Sparsity.{row_at}
 use Rattle.pattern.proofs.Sets.{size_le}
 use Rattle.marks.specs.Seen.{seen}

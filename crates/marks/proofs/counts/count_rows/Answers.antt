@@ -1,4 +1,4 @@
-use Rattle.std.proofs.Common.{◌≡◌, ◌+◌, ◌<◌, ◌≤◌, min, ◌||◌, ◌++◌, sym, ap, ◌∙◌, arith}
+use Rattle.std.proofs.Common.{◌≡◌, ◌+◌, min, ◌||◌, ◌++◌, sym, ap, ◌∙◌, arith}
 use Rattle.pattern.specs.Columns.{among, columns_in}
 use Rattle.pattern.specs.Sparsity.{row_at, row_count}
 use Rattle.pattern.proofs.Sets.{columns_more, columns_clipped}

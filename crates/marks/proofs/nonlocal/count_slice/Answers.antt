@@ -3,7 +3,7 @@ use mir.Val.{bool_byte}
 use Rattle.std.proofs.lemmas.List.{take_all}
 use Rattle.owners.specs.Lists.{list_of}
 use Rattle.owners.specs.Owned.{owned_by}
-use Rattle.pattern.specs.Columns.{among, size_below}
+use Rattle.pattern.specs.Columns.{among}
 use Rattle.pattern.proofs.Sets.{size_le}
 use Rattle.marks.specs.Seen.{seen}
 use Rattle.marks.proofs.Counting.{seen_more_of, then_take}

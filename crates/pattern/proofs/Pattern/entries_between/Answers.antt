@@ -1,5 +1,5 @@
-use Rattle.std.proofs.Common.{◌≡◌, ◌+◌, ◌<◌, ◌≤◌, min, sym, ap, ◌∙◌, arith}
-use Rattle.pattern.specs.Sparsity.{row_count, entries_between}
+use Rattle.std.proofs.Common.{◌≡◌, ◌+◌, min, ◌∙◌, arith}
+use Rattle.pattern.specs.Sparsity.{row_count}
 use Rattle.pattern.proofs.Spans.{entries_more, entries_clipped, entries_few}
 use Rattle.pattern.proofs.Pattern.entries_between.Goals as goal
 

@@ -1,6 +1,5 @@
-use Rattle.std.proofs.Common.{◌≡◌, ℕ, ◌+◌, ◌-◌, ◌<◌, ◌≤◌, length, get_or, ⊎_elim, arith}
+use Rattle.std.proofs.Common.{◌≡◌, ◌+◌, ◌-◌, ◌<◌, get_or, ⊎_elim, arith}
 use Rattle.std.proofs.lemmas.Bool.{cases_lt}
-use Rattle.pattern.specs.Sparsity.{RowOrdered}
 use Rattle.stored.proofs.check.row_ordered.Goals as goal
 use Rattle.stored.proofs.check.row_ordered.Goals.{then-column-least-via-then-column-least, then-column-least-via-else-column-least+then-column-width}
 

@@ -1,4 +1,4 @@
-use Rattle.std.proofs.Common.{ℕ, Bool, not, refl, arith}
+use Rattle.std.proofs.Common.{not, refl, arith}
 use Rattle.owners.specs.Lists.{list_of}
 use Rattle.owners.specs.Owned.{owned_by}
 use Rattle.pattern.specs.Columns.{among, columns_in}

@@ -1,4 +1,4 @@
-use Rattle.std.proofs.Common.{◌≡◌, ◌-◌, ◌≤◌, min, refl, ap, ◌∙◌, arith}
+use Rattle.std.proofs.Common.{◌≡◌, ◌≤◌, min, refl, ap, ◌∙◌, arith}
 use Rattle.pattern.specs.Sparsity.{row_count}
 use Rattle.pricing.specs.Growth.{work_few}
 use Rattle.pricing.proofs.work_answers.WorkCost.figure.Goals as goal
