@@ -1,5 +1,5 @@
 -- The pattern of a grid of points, p to a line and q lines: point x of line y is row y × p + x.
-use Rattle.std.specs.Prelude.{◌≡◌, ℕ, ◌+◌, ◌-◌, ◌*◌, ◌/◌, ◌%◌, ◌<◌, ◌≤◌, Bool, cond, List, [], ◌∷◌, map, length, nat_lt}
+use Rattle.std.specs.Prelude.{◌≡◌, ℕ, ◌+◌, ◌-◌, ◌*◌, ◌/◌, ◌%◌, ◌<◌, ◌≤◌, Bool, cond, List, [], ◌∷◌, map, nat_lt}
 use Rattle.std.specs.List.{range_with_len}
 use Rattle.pattern.specs.Sparsity.{Sparsity, entry_count, column_at}
 
