@@ -1,6 +1,7 @@
 -- A run goes on by one call.
 use Rattle.std.proofs.Common.{◌≡◌, ℕ, zero, suc, ◌+◌, ◌-◌, ◌<◌, true, false, ◌&&◌, ltb, List, [], ◌∷◌, ◌++◌, sym, refl, ap, ◌∙◌, subst, ⊎_elim, arith}
 use Rattle.std.proofs.lemmas.Bool.{cond-true, cond-false, lt-ltb, ltb-false, and_cases, cases_Bool}
+use Rattle.cost.specs.declared.Cost.{Ghosts}
 use Rattle.cost.specs.Price.{Price}
 use Rattle.search.specs.declared.search.Search.{Search}
 use Rattle.search.specs.declared.call.Call.{Call}
@@ -19,23 +20,23 @@ pub play_none : (p : Price) (K C : ℕ) → play p K C [] ≡ start C
 unfolding plays
 play_none p K C = refl
 
-module _ {C : Type 0} (price : C → Price) (put : C → ℕ → ℕ → ℕ → C → Type 0) where
+module _ {C : Type 0} {g : Ghosts C} (price : C → Price) (put : C → ℕ → ℕ → ℕ → C → Type 0) where
   -- what the search was opened with is kept
-  pub record Kept (s t : Search C) : Type 0 where
+  pub record Kept (s t : Search C g) : Type 0 where
     pub price_same : price t.cost ≡ price s.cost
     pub blocks_same : t.blocks ≡ s.blocks
     pub ceiling_same : t.ceiling ≡ s.ceiling
 
-  pub kept_same : (s : Search C) → Kept s s
+  pub kept_same : (s : Search C g) → Kept s s
   kept_same s = record { price_same = refl; blocks_same = refl; ceiling_same = refl }
 
-  pub kept_more : (s t u : Search C) → Kept s t → Kept t u → Kept s u
+  pub kept_more : (s t u : Search C g) → Kept s t → Kept t u → Kept s u
   kept_more s t u a b = record { price_same = b.price_same ∙ a.price_same; blocks_same = b.blocks_same ∙ a.blocks_same; ceiling_same = b.ceiling_same ∙ a.ceiling_same }
 
-  pub kept_by : (call : Call) (s t : Search C) → Follows price put call s t → Kept s t
+  pub kept_by : (call : Call) (s t : Search C g) → Follows price put call s t → Kept s t
   kept_by call s t f = record { price_same = f.price_same; blocks_same = f.blocks_same; ceiling_same = f.ceiling_same }
 
-  module _ (call : Call) (s t : Search C) (kept : Kept s t) where
+  module _ (call : Call) (s t : Search C g) (kept : Kept s t) where
     ran_next : view_of t ≡ step (price s.cost) s.blocks s.ceiling call (view_of s) → (calls : List Call) → Ran price s calls → Ran price t (calls ++ (call ∷ []))
     ran_next e calls ran =
         e
@@ -49,7 +50,7 @@ module _ {C : Type 0} (price : C → Price) (put : C → ℕ → ℕ → ℕ →
     follows e asks = record { view = e; price_same = kept.price_same; blocks_same = kept.blocks_same; ceiling_same = kept.ceiling_same; puts = asks; run = ran_next e }
 
   -- a call that changes nothing and asks nothing
-  pub follows_same : (call : Call) (s : Search C) → view_of s ≡ step (price s.cost) s.blocks s.ceiling call (view_of s) → call_asks (price s.cost) s.blocks s.ceiling call (view_of s) ≡ [] → Follows price put call s s
+  pub follows_same : (call : Call) (s : Search C g) → view_of s ≡ step (price s.cost) s.blocks s.ceiling call (view_of s) → call_asks (price s.cost) s.blocks s.ceiling call (view_of s) ≡ [] → Follows price put call s s
   follows_same call s e none = follows call s s (kept_same s) e (subst (λ qs. Trail put s.cost qs s.cost) (sym none) (trail_none put s.cost))
 
 -- each call, as it goes

@@ -2,6 +2,7 @@
 use Rattle.std.proofs.Common.{◌≡◌, ℕ, ◌^◌, ◌<◌, ◌≤◌, Bool, true, false, ◌&&◌, ltb, leb, List, Ok, Result, sym, refl, subst, ⊎_elim, arith}
 use Rattle.std.proofs.lemmas.Bool.{cond_both, cases_Bool, ltb-true, ltb-false, leb-true, lt-leb, le-leb, lt-ltb, le-ltb, and_left, and_right, and_from}
 use Rattle.refusal.specs.declared.Refusal.{Refusal}
+use Rattle.cost.specs.declared.Cost.{Ghosts}
 use Rattle.cost.specs.Price.{Price, Lawful}
 use Rattle.search.specs.declared.search.Search.{Search}
 use Rattle.search.specs.declared.call.Call.{Call}
@@ -39,7 +40,7 @@ module _ (p : Price) (lawful : Lawful p) (K C : ℕ) (small : K < 2 ^ 32) (c : �
   told : (calls : List Call) (s : View) → s ≡ play p K C calls → Told p K c (try_answer p K C c s)
   told calls s ran = try_tells s (subst (Sound p K C) (sym ran) (counted_play p lawful K C small calls).sound)
 
-module _ {C : Type 0} (price : C → Price) (put : C → ℕ → ℕ → ℕ → C → Type 0) (s : Search C) (law : Lawful (price s.cost)) (c : ℕ) where
+module _ {C : Type 0} {g : Ghosts C} (price : C → Price) (put : C → ℕ → ℕ → ℕ → C → Type 0) (s : Search C g) (law : Lawful (price s.cost)) (c : ℕ) where
   pub told_of : (r : Result (Bool × Report) Refusal) → r ≡ try_answer (price s.cost) s.blocks s.ceiling c (view_of s) → (calls : List Call) → Ran price s calls → Told (price s.cost) s.blocks c r
   told_of r e calls ran =
       let small : s.blocks < 2 ^ 32 = omega (arith, s.shape.1) in

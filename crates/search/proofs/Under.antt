@@ -1,6 +1,7 @@
 -- A run under way through a real search.
 use Rattle.std.proofs.Common.{◌≡◌, ℕ, ◌+◌, ◌<◌, List, [], ◌∷◌, ◌++◌, length, get_or, drop, Some, None, Option, sym, refl, ap, ◌∙◌, subst}
 use Rattle.std.proofs.lemmas.List.{drop_more}
+use Rattle.cost.specs.declared.Cost.{Ghosts}
 use Rattle.cost.specs.Price.{Price}
 use Rattle.search.specs.declared.search.Search.{Search}
 use Rattle.search.specs.declared.call.Call.{Call}
@@ -43,7 +44,7 @@ module _ (p : Price) (K C : ℕ) where
 abbrev played : Report → Option (List ℕ) → Option Answer → Played
 played r cut last = record { report = r; cut = cut; last = last }
 
-module _ {C : Type 0} (price : C → Price) (put : C → ℕ → ℕ → ℕ → C → Type 0) (s : Search C) (calls : List Call) where
+module _ {C : Type 0} {g : Ghosts C} (price : C → Price) (put : C → ℕ → ℕ → ℕ → C → Type 0) (s : Search C g) (calls : List Call) where
   abbrev p : Price
   p = price s.cost
 
@@ -54,7 +55,7 @@ module _ {C : Type 0} (price : C → Price) (put : C → ℕ → ℕ → ℕ →
   M = s.ceiling
 
   -- what is left of the calls leads from t on to the whole
-  pub record Under (rest : List Call) (t : Search C) (last : Option Answer) : Type 0 where
+  pub record Under (rest : List Call) (t : Search C g) (last : Option Answer) : Type 0 where
     pub kept : Kept price put s t
     pub view : plays p K M rest (view_of t) ≡ plays p K M calls (view_of s)
     pub last_is : last_answer p K M rest (view_of t) last ≡ last_answer p K M calls (view_of s) None
@@ -63,7 +64,7 @@ module _ {C : Type 0} (price : C → Price) (put : C → ℕ → ℕ → ℕ →
   pub under_start : Under calls s None
   under_start = record { kept = kept_same price put s; view = refl; last_is = refl; asks = λ z h. h }
 
-  module _ (x : Call) (rest : List Call) (t u : Search C) (last : Option Answer) (a : Answer) (now : Under (x ∷ rest) t last) (f : Follows price put x t u) (e : a ≡ answer_of (price t.cost) t.blocks t.ceiling x (view_of t)) where
+  module _ (x : Call) (rest : List Call) (t u : Search C g) (last : Option Answer) (a : Answer) (now : Under (x ∷ rest) t last) (f : Follows price put x t u) (e : a ≡ answer_of (price t.cost) t.blocks t.ceiling x (view_of t)) where
     stepped : view_of u ≡ step p K M x (view_of t)
     stepped = f.view ∙ ap (λ q. step q t.blocks t.ceiling x (view_of t)) now.kept.price_same ∙ ap (λ k. step p k t.ceiling x (view_of t)) now.kept.blocks_same ∙ ap (λ m. step p K m x (view_of t)) now.kept.ceiling_same
 
@@ -84,11 +85,11 @@ module _ {C : Type 0} (price : C → Price) (put : C → ℕ → ℕ → ℕ →
       asks = λ z h. now.asks z (subst (λ qs. Trail put t.cost qs z) (sym (asks_cons p K M x rest (view_of t))) (trail_more put t.cost u.cost z (call_asks p K M x (view_of t)) (run_asks p K M rest (step p K M x (view_of t))) asked (subst (λ v. Trail put u.cost (run_asks p K M rest v) z) stepped h)));
     }
 
-  pub under_turn : (i : ℕ) (d : Call) (t u : Search C) (last : Option Answer) (a : Answer) → i < length calls → Under (drop i calls) t last → Follows price put (get_or calls i d) t u → a ≡ answer_of (price t.cost) t.blocks t.ceiling (get_or calls i d) (view_of t) → Under (drop (i + 1) calls) u (Some a)
+  pub under_turn : (i : ℕ) (d : Call) (t u : Search C g) (last : Option Answer) (a : Answer) → i < length calls → Under (drop i calls) t last → Follows price put (get_or calls i d) t u → a ≡ answer_of (price t.cost) t.blocks t.ceiling (get_or calls i d) (view_of t) → Under (drop (i + 1) calls) u (Some a)
   under_turn i d t u last a l now f e = under_next (get_or calls i d) (drop (i + 1) calls) t u last a (subst (λ xs. Under xs t last) (drop_more calls i d l) now) f e
 
   -- the run is over, on a search that was opened so
-  module _ (t : Search C) (last : Option Answer) (now : Under [] t last) (cost : C) (K' M' : ℕ) (opened : Opened price cost K' M' s) where
+  module _ (t : Search C g) (last : Option Answer) (now : Under [] t last) (cost : C) (K' M' : ℕ) (opened : Opened price cost K' M' s) where
     over : view_of t ≡ play (price cost) K' M' calls
     over =
         sym (plays_nil p K M (view_of t)) ∙ now.view

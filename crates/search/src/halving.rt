@@ -40,9 +40,9 @@ fn one_more(questions: u32) -> u32
 
 /// Puts one question.
 fn ask<C: Cost>(cost: &mut C, block: u32, start: u32, row: u32) -> u64
-    ensures value { result ≡ asked (price cost.old) block start row }
-    ensures same { price cost.new ≡ price cost.old }
-    ensures puts { put cost.old block start row cost.new }
+    ensures value { result ≡ asked (C.price cost.old) block start row }
+    ensures same { C.price cost.new ≡ C.price cost.old }
+    ensures puts { C.put cost.old block start row cost.new }
 {
     cost.figure(block, start, row)
 }
@@ -59,12 +59,12 @@ pub(crate) fn halving<C: Cost>(
 ) -> (u32, u64, u32)
     requires from { start ≤ low }
     requires order { low ≤ high }
-    requires within { high ≤ (price cost.old).rows }
-    ensures exact { result ≡ halved (price cost.old) block start low high c }
-    ensures furthest { Furthest (price cost.old) block start low high c result.0 result.1 result.2 }
-    ensures enough { Enough (price cost.old) block start low high c }
-    ensures same { price cost.new ≡ price cost.old }
-    ensures puts { Trail put cost.old (halving_asks (price cost.old) block start low high c) cost.new }
+    requires within { high ≤ (C.price cost.old).rows }
+    ensures exact { result ≡ halved (C.price cost.old) block start low high c }
+    ensures furthest { Furthest (C.price cost.old) block start low high c result.0 result.1 result.2 }
+    ensures enough { Enough (C.price cost.old) block start low high c }
+    ensures same { C.price cost.new ≡ C.price cost.old }
+    ensures puts { Trail C.put cost.old (halving_asks (C.price cost.old) block start low high c) cost.new }
 {
     let mut from = low;
     let mut past = high + 1;

@@ -37,8 +37,8 @@ fn standing_cut<C: Cost>(search: &mut Search<C>) -> Option<[u32; 1025]>
 
 /// One call of a run.
 fn play_one<C: Cost>(search: &mut Search<C>, call: Call) -> Answer
-    ensures follows { Follows price put call search.old search.new }
-    ensures answer { result ≡ answer_of (price search.old.cost) search.old.blocks search.old.ceiling call (view_of search.old) }
+    ensures follows { Follows C.price C.put call search.old search.new }
+    ensures answer { result ≡ answer_of (C.price search.old.cost) search.old.blocks search.old.ceiling call (view_of search.old) }
 {
     match call {
         Call::Advance(n) => Answer::Advanced(search.advance(n)),
@@ -51,9 +51,9 @@ fn play_one<C: Cost>(search: &mut Search<C>, call: Call) -> Answer
 /// A run of which the search can be opened: what it comes to, and the cost back.
 fn run_through<C: Cost>(cost: C, blocks: u32, ceiling: u64, calls: &[Call]) -> (Played, C)
     requires { open_refusal blocks ceiling ≡ None }
-    ensures exact { result.0 ≡ played_of (price cost) blocks ceiling calls.now }
-    ensures same { price result.1 ≡ price cost }
-    ensures puts { Trail put cost (run_asks (price cost) blocks ceiling calls.now (start ceiling)) result.1 }
+    ensures exact { result.0 ≡ played_of (C.price cost) blocks ceiling calls.now }
+    ensures same { C.price result.1 ≡ C.price cost }
+    ensures puts { Trail C.put cost (run_asks (C.price cost) blocks ceiling calls.now (start ceiling)) result.1 }
 {
     let mut search = Search::begin(cost, blocks, ceiling);
     let mut last = None;

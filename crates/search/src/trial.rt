@@ -24,12 +24,12 @@ pub(crate) fn trial<C: Cost>(
 ) -> Result<(u64, u32), u32>
     requires few { blocks ≤ 1024 }
     requires room { blocks < length boundaries.old }
-    requires within { end ≤ (price cost.old).rows }
-    ensures exact { result ≡ outcome end blocks (trial_to (price cost.old) end c blocks) }
-    ensures written { take (length (trial_to (price cost.old) end c blocks).cut) boundaries.new ≡ (trial_to (price cost.old) end c blocks).cut }
-    ensures law { TrialLaw (price cost.old) end c blocks (take (blocks + 1) boundaries.new) result }
-    ensures same { price cost.new ≡ price cost.old }
-    ensures puts { Trail put cost.old (trial_to (price cost.old) end c blocks).questions cost.new }
+    requires within { end ≤ (C.price cost.old).rows }
+    ensures exact { result ≡ outcome end blocks (trial_to (C.price cost.old) end c blocks) }
+    ensures written { take (length (trial_to (C.price cost.old) end c blocks).cut) boundaries.new ≡ (trial_to (C.price cost.old) end c blocks).cut }
+    ensures law { TrialLaw (C.price cost.old) end c blocks (take (blocks + 1) boundaries.new) result }
+    ensures same { C.price cost.new ≡ C.price cost.old }
+    ensures puts { Trail C.put cost.old (trial_to (C.price cost.old) end c blocks).questions cost.new }
 {
     boundaries[0] = 0;
     let mut start: u32 = 0;

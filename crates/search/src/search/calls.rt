@@ -64,7 +64,7 @@ impl<C: Cost> Search<C> {
     /// A new search, where nothing speaks against it.
     pub(crate) fn begin(cost: C, blocks: u32, ceiling: u64) -> Search<C>
         requires { open_refusal blocks ceiling ≡ None }
-        ensures { Opened price cost blocks ceiling result }
+        ensures { Opened C.price cost blocks ceiling result }
     {
         Search {
             cost,
@@ -82,7 +82,7 @@ impl<C: Cost> Search<C> {
 
     /// A new search over a cost, for so many blocks and up to this ceiling; declined, it gives the cost back.
     pub fn open(cost: C, blocks: u32, ceiling: u64) -> Result<Search<C>, Declined<C>>
-        ensures { elim result [ Ok s ↦ Opened price cost blocks ceiling s | Err e ↦ (open_refusal blocks ceiling ≡ Some e.reason) × (e.brought ≡ cost) ] }
+        ensures { elim result [ Ok s ↦ Opened C.price cost blocks ceiling s | Err e ↦ (open_refusal blocks ceiling ≡ Some e.reason) × (e.brought ≡ cost) ] }
     {
         match Search::refusal(&cost, blocks, ceiling) {
             Some(reason) => Err(Declined {
@@ -128,7 +128,7 @@ impl<C: Cost> Search<C> {
     /// What the search has come to.
     pub fn tell(&self) -> Report
         ensures exact { result ≡ report_of (view_of self.now) }
-        ensures law { LawAt price self.now result }
+        ensures law { LawAt C.price self.now result }
     {
         Report {
             state: self.state(),
@@ -159,10 +159,10 @@ impl<C: Cost> Search<C> {
         requires above { self.old.floor ≤ c }
         requires under { c < self.old.figure }
         requires fair { Fair advancing (view_of self.old) c }
-        ensures exact { view_of self.new ≡ tried (price self.old.cost) self.old.blocks c advancing (view_of self.old) }
-        ensures answer { result ≡ succeeds (price self.old.cost).rows self.old.blocks (trial_at (price self.old.cost) self.old.blocks c) }
-        ensures kept { (price self.new.cost ≡ price self.old.cost) × (self.new.blocks ≡ self.old.blocks) × (self.new.ceiling ≡ self.old.ceiling) }
-        ensures puts { Trail put self.old.cost (trial_at (price self.old.cost) self.old.blocks c).questions self.new.cost }
+        ensures exact { view_of self.new ≡ tried (C.price self.old.cost) self.old.blocks c advancing (view_of self.old) }
+        ensures answer { result ≡ succeeds (C.price self.old.cost).rows self.old.blocks (trial_at (C.price self.old.cost) self.old.blocks c) }
+        ensures kept { (C.price self.new.cost ≡ C.price self.old.cost) × (self.new.blocks ≡ self.old.blocks) × (self.new.ceiling ≡ self.old.ceiling) }
+        ensures puts { Trail C.put self.old.cost (trial_at (C.price self.old.cost) self.old.blocks c).questions self.new.cost }
     {
         let mut boundaries = [0; 1025];
         let rows = self.cost.row_count();
@@ -189,10 +189,10 @@ impl<C: Cost> Search<C> {
     /// Up to n trials, from 1 to 64, each halfway between the floor and the standing figure, while they differ; the
     /// report.
     pub fn advance(&mut self, n: u32) -> Result<Report, Refusal>
-        ensures follows { Follows price put (Call.Advance n) self.old self.new }
-        ensures answer { result ≡ advance_answer (price self.old.cost) self.old.blocks n (view_of self.old) }
-        ensures after { AfterAdvance price self.old self.new result }
-        ensures splits { AdvanceSplits (price self.old.cost) self.old.blocks (view_of self.old) }
+        ensures follows { Follows C.price C.put (Call.Advance n) self.old self.new }
+        ensures answer { result ≡ advance_answer (C.price self.old.cost) self.old.blocks n (view_of self.old) }
+        ensures after { AfterAdvance C.price self.old self.new result }
+        ensures splits { AdvanceSplits (C.price self.old.cost) self.old.blocks (view_of self.old) }
     {
         if !advances_by(n) {
             return Err(Refusal::Count);
@@ -236,11 +236,11 @@ impl<C: Cost> Search<C> {
 
     /// Whether some cut costs c or less, and the report: known, or found by a trial at c.
     pub fn try_at(&mut self, c: u64) -> Result<(bool, Report), Refusal>
-        ensures follows { Follows price put (Call.Try c) self.old self.new }
-        ensures answer { result ≡ try_answer (price self.old.cost) self.old.blocks self.old.ceiling c (view_of self.old) }
-        ensures after { AfterTry price self.old self.new result }
+        ensures follows { Follows C.price C.put (Call.Try c) self.old self.new }
+        ensures answer { result ≡ try_answer (C.price self.old.cost) self.old.blocks self.old.ceiling c (view_of self.old) }
+        ensures after { AfterTry C.price self.old self.new result }
         ensures unchanged { try_makes self.old.ceiling (view_of self.old) c ≡ false → self.new ≡ self.old }
-        ensures told { (calls : List Call) → Ran price self.old calls → Told (price self.old.cost) self.old.blocks c result }
+        ensures told { (calls : List Call) → Ran C.price self.old calls → Told (C.price self.old.cost) self.old.blocks c result }
     {
         if self.too_high(c) {
             return Err(Refusal::Ceiling);

@@ -7,7 +7,7 @@ pub loop-left-init : goal.loop-left-init
 loop-left-init c = counting_start c.args.n (omega arith)
 
 pub loop-left-preserved : goal.loop-left-preserved
-loop-left-preserved c = subst (λ x. Counting c.args.n x (c.loop-left.count + 1)) (sym c.without-last-left.ensures) (counting_next c.args.n c.loop-left.left c.loop-left.count c.loop-left.invariant c.loop-left-test.true)
+loop-left-preserved c = subst (λ x. Counting c.args.n x (c.loop-left.count + 1)) (sym c.without_last-left.ensures) (counting_next c.args.n c.loop-left.left c.loop-left.count c.loop-left.invariant c.loop-left-test.true)
 
 pub returns : goal.returns
 returns c =

@@ -19,8 +19,8 @@ loop-from-init g c =
       λ z t. subst (λ qs. Trail g.C.Cost.put a.cost.now qs z) (halves_all p a.block a.start a.low a.high a.c) t,
     )
 
-pub one-more-questions-requires : goal.one-more-questions-requires
-one-more-questions-requires g c =
+pub one_more-questions-requires : goal.one_more-questions-requires
+one_more-questions-requires g c =
     let a = c.args in
     let l = c.loop-from in
     let p = g.C.Cost.price a.cost.now in
@@ -33,38 +33,38 @@ pub loop-from-preserved-then-grants : goal.loop-from-preserved-then-grants
 loop-from-preserved-then-grants g c =
     let a = c.args in
     let l = c.loop-from in
-    let m = c.middle-of-middle.result in
+    let m = c.middle_of-middle.result in
     let w = c.ask-figure.result in
-    let n = c.one-more-questions.result in
+    let n = c.one_more-questions.result in
     let next = c.ask-figure.new.cost in
     let p = g.C.Cost.price a.cost.now in
     let law = g.met.C.Cost.lawful a.cost.now in
     let fits : a.block < 2 ^ 32 = omega arith in
     let going = l.invariant.1 in
-    let is : w ≡ p.figure a.block a.start m = asked_at p (g.C.Cost.price l.cost) a.block a.start m w l.invariant.0 (omega (arith, c.requires.from, going.from, c.middle-of-middle.ensures)) (omega (arith, c.requires.within, going.within, c.middle-of-middle.ensures)) c.ask-figure.ensures.value in
+    let is : w ≡ p.figure a.block a.start m = asked_at p (g.C.Cost.price l.cost) a.block a.start m w l.invariant.0 (omega (arith, c.requires.from, going.from, c.middle_of-middle.ensures)) (omega (arith, c.requires.within, going.within, c.middle_of-middle.ensures)) c.ask-figure.ensures.value in
     let yes = leb-true w a.c (sym c.grants.ensures ∙ c.if-grants.true) in
-    let turn = turn_grant p law a.block a.start a.low a.high a.c fits c.requires.from c.requires.within l.from l.past l.questions going c.loop-from-test.true m w n l.granted l.refused c.middle-of-middle.ensures c.one-more-questions.ensures l.invariant.2 c.row-after-from.result c.row-after-from.ensures is yes in (
+    let turn = turn_grant p law a.block a.start a.low a.high a.c fits c.requires.from c.requires.within l.from l.past l.questions going c.loop-from-test.true m w n l.granted l.refused c.middle_of-middle.ensures c.one_more-questions.ensures l.invariant.2 c.row_after-from.result c.row_after-from.ensures is yes in (
       c.ask-figure.ensures.same ∙ l.invariant.0,
       turn.0,
       turn.1,
-      λ z t. l.invariant.3 z (subst (λ qs. Trail g.C.Cost.put l.cost qs z) (sym turn.2) (trail_one g.C.Cost.put l.cost next z (a.block, a.start, m) (halves p a.block a.start a.c (digits (a.high + 1) - n) c.row-after-from.result l.past) c.ask-figure.ensures.puts t)),
+      λ z t. l.invariant.3 z (subst (λ qs. Trail g.C.Cost.put l.cost qs z) (sym turn.2) (trail_one g.C.Cost.put l.cost next z (a.block, a.start, m) (halves p a.block a.start a.c (digits (a.high + 1) - n) c.row_after-from.result l.past) c.ask-figure.ensures.puts t)),
     )
 
 pub loop-from-preserved : goal.loop-from-preserved
 loop-from-preserved g c =
     let a = c.args in
     let l = c.loop-from in
-    let m = c.middle-of-middle.result in
+    let m = c.middle_of-middle.result in
     let w = c.ask-figure.result in
-    let n = c.one-more-questions.result in
+    let n = c.one_more-questions.result in
     let next = c.ask-figure.new.cost in
     let p = g.C.Cost.price a.cost.now in
     let law = g.met.C.Cost.lawful a.cost.now in
     let fits : a.block < 2 ^ 32 = omega arith in
     let going = l.invariant.1 in
-    let is : w ≡ p.figure a.block a.start m = asked_at p (g.C.Cost.price l.cost) a.block a.start m w l.invariant.0 (omega (arith, c.requires.from, going.from, c.middle-of-middle.ensures)) (omega (arith, c.requires.within, going.within, c.middle-of-middle.ensures)) c.ask-figure.ensures.value in
+    let is : w ≡ p.figure a.block a.start m = asked_at p (g.C.Cost.price l.cost) a.block a.start m w l.invariant.0 (omega (arith, c.requires.from, going.from, c.middle_of-middle.ensures)) (omega (arith, c.requires.within, going.within, c.middle_of-middle.ensures)) c.ask-figure.ensures.value in
     let no = leb-false w a.c (sym c.grants.ensures ∙ c.if-grants.false) in
-    let turn = turn_refuse p law a.block a.start a.low a.high a.c fits c.requires.from c.requires.within l.from l.past l.questions going c.loop-from-test.true m w n l.granted l.refused c.middle-of-middle.ensures c.one-more-questions.ensures l.invariant.2 is no in (
+    let turn = turn_refuse p law a.block a.start a.low a.high a.c fits c.requires.from c.requires.within l.from l.past l.questions going c.loop-from-test.true m w n l.granted l.refused c.middle_of-middle.ensures c.one_more-questions.ensures l.invariant.2 is no in (
       c.ask-figure.ensures.same ∙ l.invariant.0,
       turn.0,
       turn.1,

@@ -13,8 +13,8 @@ returns-in-Take g c =
     let n = c.in-Take.places in
     let still = follows_same g.C.Cost.price g.C.Cost.put (Take n) s (take_same p s.blocks s.ceiling (view_of s) n) (take_unasked p s.blocks s.ceiling (view_of s) n) in
     record {
-      follows = subst (λ t. Follows g.C.Cost.price g.C.Cost.put c.args.call s t) (sym c.take-into.ensures.unchanged) (subst (λ x. Follows g.C.Cost.price g.C.Cost.put x s s) (sym c.in-Take.is) still);
-      answer = ap Taken c.take-into.ensures.answer ∙ ap (λ x. answer_of p s.blocks s.ceiling x (view_of s)) (sym c.in-Take.is);
+      follows = subst (λ t. Follows g.C.Cost.price g.C.Cost.put c.args.call s t) (sym c.take_into.ensures.unchanged) (subst (λ x. Follows g.C.Cost.price g.C.Cost.put x s s) (sym c.in-Take.is) still);
+      answer = ap Taken c.take_into.ensures.answer ∙ ap (λ x. answer_of p s.blocks s.ceiling x (view_of s)) (sym c.in-Take.is);
     }
 
 pub returns-in-Tell : goal.returns-in-Tell

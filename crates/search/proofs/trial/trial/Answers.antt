@@ -19,8 +19,8 @@ loop-k-init g c =
       subst (λ (t : Trial). Trail g.C.Cost.put a.cost.now t.questions a.cost.now) (sym (trial_first p a.end a.c)) (trail_none g.C.Cost.put a.cost.now),
     )
 
-pub overflow-add-questions : goal.overflow-add-questions
-overflow-add-questions g c =
+pub overflow_add-questions : goal.overflow_add-questions
+overflow_add-questions g c =
     let a = c.args in
     let l = c.loop-k in
     let r = c.halving-boundary.result in

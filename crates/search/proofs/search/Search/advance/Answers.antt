@@ -10,11 +10,11 @@ use Rattle.search.proofs.Trailing.{trail_none, trail_more}
 use Rattle.search.proofs.Along.{Kept, kept_more, follows, follows_same, advance_declined, advance_unasked, advance_taken, advance_asked, advanced_turn, asks_turn, advanced_stop, splits}
 use Rattle.search.proofs.search.Search.advance.Goals as goal
 
-pub returns-then-not-advances-by : goal.returns-then-not-advances-by
-returns-then-not-advances-by g c =
+pub returns-then-not-advances_by : goal.returns-then-not-advances_by
+returns-then-not-advances_by g c =
     let s = c.args.self.now in
     let p = g.C.Cost.price s.cost in
-    let bad : advance_ok c.args.n ≡ false = sym c.advances-by.ensures ∙ c.if-not-advances-by.true in
+    let bad : advance_ok c.args.n ≡ false = sym c.advances_by.ensures ∙ c.if-not-advances_by.true in
     record {
       follows = follows_same g.C.Cost.price g.C.Cost.put (Advance c.args.n) s (advance_declined p s.blocks s.ceiling (view_of s) c.args.n bad) (advance_unasked p s.blocks s.ceiling (view_of s) c.args.n bad);
       answer = sym (cond-false (advance_ok c.args.n) _ _ bad);
@@ -22,31 +22,31 @@ returns-then-not-advances-by g c =
       splits = splits p s.blocks (view_of s);
     }
 
-pub one-trial-requires : goal.one-trial-requires
-one-trial-requires g c =
+pub one_trial-requires : goal.one_trial-requires
+one_trial-requires g c =
     let t = c.loop-self.self in
-    let both = and_parts (ltb 0 c.loop-self.left) (ltb t.floor t.figure) (sym c.goes-on.ensures ∙ c.loop-self-test.true) in
+    let both = and_parts (ltb 0 c.loop-self.left) (ltb t.floor t.figure) (sym c.goes_on.ensures ∙ c.loop-self-test.true) in
     let o = ltb-true t.floor t.figure both.1 in
     record { above = omega (arith, c.half-c.ensures); under = omega (arith, c.half-c.ensures); fair = c.half-c.ensures }
 
-pub overflow-sub-left : goal.overflow-sub-left
-overflow-sub-left g c =
+pub overflow_sub-left : goal.overflow_sub-left
+overflow_sub-left g c =
     let t = c.loop-self.self in
-    let both = and_parts (ltb 0 c.loop-self.left) (ltb t.floor t.figure) (sym c.goes-on.ensures ∙ c.loop-self-test.true) in
+    let both = and_parts (ltb 0 c.loop-self.left) (ltb t.floor t.figure) (sym c.goes_on.ensures ∙ c.loop-self-test.true) in
     omega (arith, ltb-true 0 c.loop-self.left both.0)
 
 pub loop-self-preserved : goal.loop-self-preserved
 loop-self-preserved g c =
     let s = c.args.self.now in
     let t = c.loop-self.self in
-    let u = c.one-trial.new.self in
+    let u = c.one_trial.new.self in
     let left = c.loop-self.left in
     let p = g.C.Cost.price s.cost in
     let K = s.blocks in
     let st = view_of t in
     let kept = c.loop-self.invariant.0 in
-    let done = c.one-trial.ensures in
-    let both = and_parts (ltb 0 left) (ltb t.floor t.figure) (sym c.goes-on.ensures ∙ c.loop-self-test.true) in
+    let done = c.one_trial.ensures in
+    let both = and_parts (ltb 0 left) (ltb t.floor t.figure) (sym c.goes_on.ensures ∙ c.loop-self-test.true) in
     let some = ltb-true 0 left both.0 in
     let o = ltb-true t.floor t.figure both.1 in
     let half = c.half-c.ensures in
@@ -68,8 +68,8 @@ returns g c =
     let n = c.args.n in
     let p = g.C.Cost.price s.cost in
     let K = s.blocks in
-    let good : advance_ok n ≡ true = sym c.advances-by.ensures ∙ c.if-not-advances-by.false in
-    let stop = advanced_stop p K c.loop-self.left (view_of t) (sym c.goes-on.ensures ∙ c.loop-self-test.false) in
+    let good : advance_ok n ≡ true = sym c.advances_by.ensures ∙ c.if-not-advances_by.false in
+    let stop = advanced_stop p K c.loop-self.left (view_of t) (sym c.goes_on.ensures ∙ c.loop-self-test.false) in
     let whole : view_of t ≡ advanced p K n (view_of s) = sym stop.0 ∙ c.loop-self.invariant.1 in
     let asks = c.loop-self.invariant.2 t.cost (subst (λ qs. Trail g.C.Cost.put t.cost qs t.cost) (sym stop.1) (trail_none g.C.Cost.put t.cost)) in
     record {
