@@ -1,5 +1,5 @@
 -- What the definitions come to on the sample.
-use Rattle.std.specs.Prelude.{◌≡◌, ℕ, ◌^◌, List, [], ◌∷◌}
+use Rattle.std.specs.Prelude.{◌≡◌, ◌^◌, [], ◌∷◌}
 use Rattle.combine.specs.Combined.{greater_price, limit_price, sum_price, times_price}
 use Rattle.pattern.specs.Columns.{columns_and_rows, distinct_columns}
 use Rattle.pricing.specs.Columns.{footprint_price, nonlocal_price}

@@ -1,5 +1,5 @@
 -- The sample matrix, 4 by 4, and a smaller one off the diagonal.
-use Rattle.std.specs.Prelude.{ℕ, [], ◌∷◌}
+use Rattle.std.specs.Prelude.{[], ◌∷◌}
 use Rattle.cost.specs.Price.{Price}
 use Rattle.pattern.specs.Sparsity.{Sparsity}
 use Rattle.pricing.specs.Columns.{nonlocal_price, scanned_price}

@@ -1,11 +1,9 @@
 -- What a search over the sample comes to: scanned, at 1 a row, 1 an entry and 2 a column.
-use Rattle.std.specs.Prelude.{◌≡◌, ℕ, List, [], ◌∷◌, Some, None}
-use Rattle.cost.specs.Price.{Price}
+use Rattle.std.specs.Prelude.{◌≡◌, ℕ, [], ◌∷◌, Some, None}
 use Rattle.pricing.specs.Columns.{scanned_price}
 use Rattle.search.specs.Law.{standing}
 use Rattle.search.specs.Play.{View, halfway, play}
 use Rattle.search.specs.Reports.{report_of}
-use Rattle.search.specs.declared.call.Call.{Call}
 use Rattle.search.specs.declared.call.Call.TheVariants.{Advance}
 use Rattle.search.specs.declared.report.State.TheVariants.{Settled, Missing}
 use Rattle.stored.specs.Csr.{csr}
