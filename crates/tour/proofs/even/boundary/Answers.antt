@@ -2,8 +2,8 @@ use Rattle.std.proofs.Common.{◌+◌, ◌*◌, ◌/◌, ◌<◌, ◌≤◌, add
 use Rattle.std.proofs.lemmas.Nat.{div_below}
 use Rattle.tour.proofs.even.boundary.Goals as goal
 
-pub overflow-cast-result-4 : goal.overflow-cast-result-4
-overflow-cast-result-4 c =
+pub overflow_cast-result-4 : goal.overflow_cast-result-4
+overflow_cast-result-4 c =
     let rows = c.args.rows in
     let blocks = c.args.blocks in
     let most : rows * c.args.block ≤ rows * blocks = mul-le-mul_left rows (omega arith) in
