@@ -1,14 +1,13 @@
 -- Planes of bits, parted, and the words of the levels.
-use Rattle.std.proofs.Common.{◌≡◌, ℕ, zero, suc, ◌+◌, ◌-◌, ◌*◌, ◌/◌, ◌%◌, ◌^◌, ◌<◌, ◌≤◌, Bool, true, false, cond, eqb, ◌≢◌, ◌⊎◌, List, [], ◌∷◌, ◌++◌, map, length, get_or, take, drop, set, sum, filter, sym, refl, ap, ◌∙◌, subst, ap₂, inl, inr, ⊎_elim, add-zero, mod-eq_of_lt, pow-suc, add-one, arith}
-use Rattle.std.specs.List.{range_with_len, between}
-use Rattle.std.proofs.lemmas.Nat.{mod_below, mod-pow-add, pow_pos}
-use Rattle.std.proofs.lemmas.List.{append-nil, length-append, map-append, get_or_past, get_or-map, get_or-take, get_or-drop, take_all, length-map}
+use Rattle.std.proofs.Common.{◌≡◌, ℕ, zero, suc, ◌+◌, ◌*◌, ◌/◌, ◌%◌, ◌^◌, ◌<◌, ◌≤◌, Bool, true, false, cond, eqb, List, [], ◌∷◌, ◌++◌, map, length, get_or, take, drop, filter, sym, refl, ap, ◌∙◌, ap₂, ⊎_elim, mod-eq_of_lt, pow-suc, arith}
+use Rattle.std.proofs.lemmas.Nat.{mod-pow-add, pow_pos}
+use Rattle.std.proofs.lemmas.List.{append-nil, length-append, map-append, get_or_past, get_or-map, get_or-take, get_or-drop, take_all}
 use Rattle.std.proofs.lemmas.List.Elements.{filter_more}
-use Rattle.std.proofs.lemmas.Bool.{cases_lt, cases_eq}
+use Rattle.std.proofs.lemmas.Bool.{cases_lt}
 use Rattle.gather.specs.Bits.{bit_of}
 use Rattle.levels.specs.Planes.{Routed, bit_at, bits_from, chosen, route}
 use Rattle.levels.proofs.Routes.{chosen_both, route_in}
-use Rattle.levels.specs.Numbers.{pack, packed, running, level, plane, sorted, levels}
+use Rattle.levels.specs.Numbers.{pack, sorted}
 use Rattle.levels.proofs.Leveled.{Bits, pack_bit, bits_part, kept_two, zero_at, one_at}
 
 -- a number is its bits

@@ -1,15 +1,15 @@
 -- A level's words, and the bits that they hold.
-use Rattle.std.proofs.Common.{◌≡◌, ℕ, zero, suc, ◌+◌, ◌-◌, ◌*◌, ◌/◌, ◌%◌, ◌^◌, ◌<◌, ◌≤◌, Bool, true, false, cond, eqb, ltb, ◌≢◌, ◌⊎◌, List, [], ◌∷◌, ◌++◌, map, length, get_or, take, drop, set, sum_by, sum, filter, sym, refl, ap, ◌∙◌, subst, ap₂, inl, inr, ⊎_elim, add-zero, add-one, arith}
-use Rattle.std.specs.List.{range_with_len, between}
-use Rattle.std.proofs.lemmas.Nat.{shr-shr, mod_below, mod-pow-add, pow_pos}
-use Rattle.std.proofs.lemmas.List.{get_or_append_left, get_or-append_right, length-append, append_assoc, get_or_past, get_or-take, get_or-drop, take_all, take_at, drop_at, take-map, take-append-drop, take-take, drop-take}
+use Rattle.std.proofs.Common.{◌≡◌, ℕ, zero, suc, ◌+◌, ◌-◌, ◌*◌, ◌/◌, ◌%◌, ◌^◌, ◌<◌, ◌≤◌, Bool, eqb, List, [], ◌∷◌, ◌++◌, length, get_or, take, drop, sum, filter, sym, refl, ap, ◌∙◌, ap₂, ⊎_elim, arith}
+use Rattle.std.specs.List.{between}
+use Rattle.std.proofs.lemmas.Nat.{shr-shr, mod_below}
+use Rattle.std.proofs.lemmas.List.{length-append, append_assoc, get_or_past, get_or-take, get_or-drop, take_all, take_at, drop_at, take-map, take-append-drop, take-take, drop-take}
 use Rattle.std.proofs.lemmas.List.Elements.{filter-append}
 use Rattle.std.proofs.lemmas.List.Sums.{sum_by_more, sum_by-cons}
 use Rattle.std.proofs.lemmas.List.FromFn.{length-map-range_with_len, get_or-map-range_with_len}
-use Rattle.std.proofs.lemmas.Bool.{cases_lt, cases_eq, eq-eqb, ne_eqb, cond-true, cond-false, lt-ltb, le-ltb}
+use Rattle.std.proofs.lemmas.Bool.{cases_lt, cases_eq, eq-eqb, ne_eqb, cond-true, cond-false}
 use Rattle.gather.specs.Bits.{bit_of}
 use Rattle.levels.specs.Planes.{bit_at}
-use Rattle.levels.specs.Numbers.{pack, packed, running, level, plane, sorted, levels}
+use Rattle.levels.specs.Numbers.{pack, packed, running, level, plane, sorted}
 
 -- each element is a bit
 abbrev pub Bits : List ℕ → Type 0

@@ -1,9 +1,9 @@
 -- Bits that join words and planes.
-use Rattle.std.proofs.Common.{◌≡◌, ℕ, zero, suc, ◌+◌, ◌-◌, ◌*◌, ◌/◌, ◌%◌, ◌^◌, ◌<◌, ◌≤◌, max, List, get_or, sym, refl, ap, ◌∙◌, subst, ap₂, ⊎_elim, lt_of_lt_of_le, mod-lt, arith, pow_mono}
+use Rattle.std.proofs.Common.{◌≡◌, ℕ, suc, ◌+◌, ◌-◌, ◌*◌, ◌/◌, ◌%◌, ◌^◌, ◌<◌, ◌≤◌, max, List, get_or, sym, ap, ◌∙◌, ap₂, ⊎_elim, lt_of_lt_of_le, arith, pow_mono}
 use native.Mathlib.Nat.{div-eq_of_lt, max-zero, zero-max}
 use lib.Bits.{bit_or}
 use Rattle.std.proofs.lemmas.Nat.{mod_below}
-use Rattle.std.proofs.lemmas.Bool.{cases_eq, cases_lt}
+use Rattle.std.proofs.lemmas.Bool.{cases_lt}
 use Rattle.gather.specs.Bits.{bit_of}
 use Rattle.gather.proofs.Bitwise.{bit_high, bit_lt, bit-or, or_bits, shl_high, shl_low}
 use Rattle.levels.specs.Planes.{Outside, bit_at, bits_from}

@@ -1,19 +1,18 @@
 -- Levels in a table: where they stand, and what is in them.
-use Rattle.std.proofs.Common.{◌≡◌, ℕ, zero, suc, ◌+◌, ◌-◌, ◌*◌, ◌/◌, ◌%◌, ◌^◌, ◌<◌, ◌≤◌, ◌≢◌, ◌⊎◌, List, [], ◌∷◌, ◌++◌, map, length, get_or, take, drop, sum, sym, refl, ap, ◌∙◌, subst, ap₂, inl, inr, ⊎_elim, add-zero, add-one, arith}
-use Rattle.std.specs.List.{range_with_len, between}
-use Rattle.std.proofs.lemmas.List.{ext_get_or, get_or_append_left, get_or-append_right, get_or_past, get_or-map, length-append, length-map, take_all, take-append-drop, take-take, drop-take, drop-drop}
+use Rattle.std.proofs.Common.{◌≡◌, ℕ, zero, suc, ◌+◌, ◌-◌, ◌*◌, ◌/◌, ◌%◌, ◌^◌, ◌<◌, ◌≤◌, List, [], ◌∷◌, ◌++◌, length, get_or, take, drop, sum, sym, refl, ap, ◌∙◌, subst, ap₂, ⊎_elim, arith}
+use Rattle.std.specs.List.{between}
+use Rattle.std.proofs.lemmas.List.{ext_get_or, get_or_append_left, get_or-append_right, length-map, take_all, take-append-drop, take-take, drop-take, drop-drop}
 use Rattle.std.proofs.lemmas.List.Edits.{length-between, get_or-between}
 use Rattle.std.proofs.lemmas.List.FromFn.{get_or-map-range_with_len}
 use Rattle.std.proofs.lemmas.Bool.{cases_lt}
 use Rattle.gather.specs.Bits.{bit_of, sum_to}
-use Rattle.levels.specs.Planes.{Outside, Routed, bit_at, bits_from, chosen}
+use Rattle.levels.specs.Planes.{Outside, Routed, bits_from}
 use Rattle.levels.proofs.Ends.{ends_more, room_for}
-use Rattle.levels.proofs.Frames.{bits_same, bits_lt, bits_before}
-use Rattle.levels.proofs.Routes.{chosen_cong}
+use Rattle.levels.proofs.Frames.{bits_same}
 use Rattle.levels.specs.Numbers.{pack, packed, running, level, plane, sorted, levels}
 use Rattle.levels.specs.Spans.{AllRouted, Holds, Tails, ends}
-use Rattle.levels.proofs.Leveled.{Bits, bits_plane, sum_take_more, length_packed, length_running, length_level}
-use Rattle.levels.proofs.Finals.{word_is, routed_plane, length_sorted}
+use Rattle.levels.proofs.Leveled.{bits_plane, sum_take_more, length_packed, length_level}
+use Rattle.levels.proofs.Finals.{word_is, routed_plane}
 
 -- a list between two places
 pub between_split : (xs : List ℕ) (a m e : ℕ) → a ≤ m → m ≤ e → between a e xs ≡ between a m xs ++ between m e xs

@@ -1,5 +1,5 @@
 -- Facts of each of the levels that stand one after another, and what is done to them in turn.
-use Rattle.std.proofs.Common.{◌≡◌, ℕ, zero, suc, ◌+◌, ◌-◌, ◌*◌, ◌/◌, ◌<◌, ◌≤◌, max, List, get_or, sym, refl, ap, ◌∙◌, subst, add-one, arith}
+use Rattle.std.proofs.Common.{◌≡◌, ℕ, zero, suc, ◌+◌, ◌*◌, ◌/◌, ◌<◌, ◌≤◌, max, List, get_or, sym, refl, ap, ◌∙◌, subst, add-one, arith}
 use Rattle.gather.specs.Gathered.{Gathered}
 use Rattle.levels.specs.Planes.{bits_from, Outside, Routed}
 use Rattle.levels.specs.Rooms.{Each, Kept, Wiped, Grown, Filled}

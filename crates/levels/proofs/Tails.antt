@@ -1,5 +1,5 @@
 -- Zero bits at the end of a plane.
-use Rattle.std.proofs.Common.{◌≡◌, ℕ, zero, suc, ◌+◌, ◌-◌, ◌*◌, ◌/◌, ◌%◌, ◌^◌, ◌<◌, ◌≤◌, List, get_or, sym, refl, ap, ◌∙◌, subst, ap₂, ⊎_elim, lt_of_le_of_lt, pow-suc, div-add-mod', div-le_self, arith}
+use Rattle.std.proofs.Common.{◌≡◌, ℕ, suc, ◌+◌, ◌-◌, ◌*◌, ◌/◌, ◌%◌, ◌^◌, ◌<◌, ◌≤◌, List, get_or, sym, ap, ◌∙◌, ⊎_elim, lt_of_le_of_lt, pow-suc, div-add-mod', div-le_self, arith}
 use native.Mathlib.Nat.{zero-div}
 use lib.Count.{leading_top}
 use Rattle.std.proofs.lemmas.Nat.{div_below, mod_below, pow_pos, shr-shr}

@@ -1,5 +1,5 @@
 -- A table that passes the check is the pattern's table.
-use Rattle.std.proofs.Common.{◌≡◌, ℕ, zero, suc, ◌+◌, ◌-◌, ◌*◌, ◌/◌, ◌%◌, ◌^◌, ◌<◌, ◌≤◌, Bool, true, false, cond, eqb, ◌≢◌, ◌⊎◌, List, [], ◌∷◌, ◌++◌, map, length, get_or, take, drop, sum, sym, refl, ap, ◌∙◌, subst, ap₂, inl, inr, ⊎_elim, arith}
+use Rattle.std.proofs.Common.{◌≡◌, ℕ, zero, suc, ◌+◌, ◌-◌, ◌*◌, ◌/◌, ◌%◌, ◌^◌, ◌<◌, ◌≤◌, cond, List, [], ◌++◌, length, get_or, take, drop, sum, sym, refl, ap, ◌∙◌, subst, ap₂, ⊎_elim, arith}
 use Rattle.std.specs.List.{between}
 use Rattle.std.proofs.lemmas.List.{get_or_past, get_or-map, length-append, length-map, take_all, take_at, drop_at, get_or_append_left, get_or-append_right}
 use Rattle.std.proofs.lemmas.List.FromFn.{get_or-map-range_with_len}
@@ -7,10 +7,10 @@ use Rattle.std.proofs.lemmas.List.Edits.{between_none, get_or-between, length-be
 use Rattle.std.proofs.lemmas.Bool.{cases_lt, cases_eq, eq-eqb, ne_eqb}
 use Rattle.gather.specs.Bits.{bit_of, sum_to}
 use Rattle.levels.specs.Planes.{bit_at, bits_from, chosen, route}
-use Rattle.levels.proofs.Ends.{ends_le, ends_more, room_for}
+use Rattle.levels.proofs.Ends.{ends_le}
 use Rattle.levels.proofs.Frames.{bits_lt, bits_from_word}
 use Rattle.levels.proofs.Routes.{chosen_both, route_in, route_next, route_place, zeros_are}
-use Rattle.levels.specs.Numbers.{pack, packed, running, level, plane, sorted, levels}
+use Rattle.levels.specs.Numbers.{packed, running, level, plane, sorted, levels}
 use Rattle.levels.specs.Spans.{ends}
 use Rattle.levels.specs.Traces.{Stands, AllStand, onward, Traced}
 use Rattle.levels.proofs.Leveled.{Bits, bits_plane, bit_at_packed, length_packed, length_level}

@@ -1,12 +1,12 @@
 -- The numbers whose bits stand in planes.
-use Rattle.std.proofs.Common.{◌≡◌, ℕ, zero, suc, ◌+◌, ◌-◌, ◌*◌, ◌/◌, ◌%◌, ◌^◌, ◌<◌, ◌≤◌, ◌≢◌, ◌⊎◌, List, [], ◌∷◌, ◌++◌, map, length, get_or, sym, refl, ap, ◌∙◌, subst, ap₂, inl, inr, ⊎_elim, pow-suc, arith}
+use Rattle.std.proofs.Common.{◌≡◌, ℕ, zero, suc, ◌+◌, ◌-◌, ◌*◌, ◌/◌, ◌%◌, ◌^◌, ◌<◌, ◌≤◌, List, length, get_or, sym, refl, ap, ◌∙◌, ap₂, ⊎_elim, pow-suc, arith}
 use Rattle.std.proofs.lemmas.Nat.{mod-pow-add, mod_below, pow_pos, div-mul-add, mod-mul-add}
 use Rattle.std.proofs.lemmas.List.{get_or_past}
 use Rattle.std.proofs.lemmas.Bool.{cases_eq}
 use Rattle.gather.specs.Bits.{bit_of}
-use Rattle.levels.specs.Planes.{Outside, bit_at, bits_from}
+use Rattle.levels.specs.Planes.{bit_at, bits_from}
 use Rattle.levels.proofs.Ends.{ends_more, room_for}
-use Rattle.levels.proofs.Frames.{bits_same, bits_lt, bits_before}
+use Rattle.levels.proofs.Frames.{bits_same, bits_lt}
 use Rattle.levels.specs.Spans.{ends, Holds, Tails, value_at}
 
 pub low_split : (t n : ℕ) → n % 2 ^ suc t ≡ bit_of n t * 2 ^ t + n % 2 ^ t

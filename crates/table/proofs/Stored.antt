@@ -1,11 +1,11 @@
 -- The codes at the places of a table, batch after batch and window after window.
-use Rattle.std.proofs.Common.{◌≡◌, ℕ, zero, suc, ◌+◌, ◌-◌, ◌*◌, ◌/◌, ◌%◌, ◌^◌, ◌<◌, ◌≤◌, Bool, true, false, cond, ◌&&◌, ◌||◌, ltb, leb, ◌⊎◌, List, [], ◌∷◌, ◌++◌, length, get_or, sym, refl, ap, ◌∙◌, subst, inl, inr, ⊎_elim, arith}
+use Rattle.std.proofs.Common.{◌≡◌, ℕ, zero, suc, ◌+◌, ◌-◌, ◌*◌, ◌/◌, ◌%◌, ◌^◌, ◌<◌, ◌≤◌, Bool, true, false, cond, ◌&&◌, ◌||◌, ltb, leb, ◌⊎◌, List, length, get_or, sym, refl, ap, ◌∙◌, subst, ⊎_elim, arith}
 use native.Mathlib.Nat.{zero-mod}
 use Rattle.std.proofs.lemmas.List.{get_or_append_left, get_or-append_right, get_or_default, get_or_past, length-append}
-use Rattle.std.proofs.lemmas.Bool.{and_cases, and_parts, cases_Bool, cases_eq, cases_lt, leb-false, leb-true, lt-ltb, le-ltb, ltb-false, ltb-true}
+use Rattle.std.proofs.lemmas.Bool.{and_cases, and_parts, cases_Bool, cases_eq, cases_lt, leb-false, leb-true, lt-ltb, le-ltb, ltb-false}
 use Rattle.levels.specs.declared.layout.Layout.{Layout}
 use Rattle.pattern.specs.Columns.{columns_in}
-use Rattle.pattern.specs.Sparsity.{Lawful, Sparsity, entries_between, row_at, row_count}
+use Rattle.pattern.specs.Sparsity.{Lawful, Sparsity, row_at, row_count}
 use Rattle.pattern.proofs.Sets.{columns_more, columns_none}
 use Rattle.table.specs.Codes.{codes}
 use Rattle.table.specs.Stores.{Stored, done, done_code, placed}

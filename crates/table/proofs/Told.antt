@@ -1,16 +1,14 @@
 -- The words of a pattern's table tell of the pattern.
-use Rattle.std.proofs.Common.{◌≡◌, ℕ, zero, suc, ◌+◌, ◌-◌, ◌*◌, ◌/◌, ◌%◌, ◌^◌, ◌<◌, ◌≤◌, min, Bool, ltb, leb, List, [], ◌∷◌, ◌++◌, map, length, get_or, take, sum, count_by, sym, refl, ap, ◌∙◌, subst, ap₂, ⊎_elim, mod-eq_of_lt, arith}
+use Rattle.std.proofs.Common.{◌≡◌, ℕ, zero, suc, ◌+◌, ◌-◌, ◌*◌, ◌/◌, ◌%◌, ◌^◌, ◌<◌, ◌≤◌, min, Bool, ltb, leb, List, [], ◌∷◌, map, length, get_or, take, sum, count_by, sym, refl, ap, ◌∙◌, subst, ap₂, ⊎_elim, mod-eq_of_lt, arith}
 use mathlib.Core.Logic.{∥∥₁_elim}
 use native.Mathlib.Bridge.{le_prop}
 use native.Mathlib.Nat.{ℕ_set}
-use Rattle.std.specs.List.{range_with_len, between}
+use Rattle.std.specs.List.{between}
 use Rattle.std.proofs.lemmas.List.FromFn.{length-map-range_with_len, get_or-map-range_with_len}
 use Rattle.std.proofs.lemmas.List.{ext_get_or, get_or_append_left, get_or-append_right, get_or-take}
 use Rattle.std.proofs.lemmas.Bool.{cases_lt, le-leb, le-ltb, lt-leb, lt-ltb}
-use Rattle.gather.specs.Bits.{bit_of}
 use Rattle.levels.specs.Layouts.{Has, Reaches, end_of}
 use Rattle.levels.specs.Numbers.{AllBelow, numbers_below, digits, levels}
-use Rattle.levels.specs.Planes.{bits_from}
 use Rattle.levels.specs.Traces.{Traced, onward}
 use Rattle.levels.specs.declared.layout.Layout.{Layout}
 use Rattle.levels.proofs.Digits.{digits_hold}
@@ -27,7 +25,6 @@ use Rattle.table.specs.Told.{SomeTable, told_codes, told_distinct, number_down, 
 use Rattle.table.specs.Words.{IsTable, total_entries, table_words}
 use Rattle.table.proofs.Distincts.{distinct-law}
 use Rattle.table.proofs.Nearness.{code_le}
-use Rattle.table.proofs.Runs.{codes_length}
 use Rattle.table.proofs.Stored.{codes_total}
 use Rattle.table.proofs.Wholes.{heads_fit, table_leveled, table_started, words_length}
 

@@ -1,11 +1,11 @@
 -- The whole table: its length, and its words from its parts.
-use Rattle.std.proofs.Common.{◌≡◌, ℕ, zero, suc, ◌+◌, ◌-◌, ◌*◌, ◌/◌, ◌<◌, ◌≤◌, List, [], ◌∷◌, ◌++◌, map, length, get_or, take, drop, set, sym, refl, ap, ◌∙◌, subst, ap₂, suc-mul, zero-mul, arith}
-use Rattle.std.specs.List.{range_with_len, between}
+use Rattle.std.proofs.Common.{◌≡◌, ℕ, zero, suc, ◌+◌, ◌*◌, ◌<◌, ◌≤◌, List, [], ◌∷◌, ◌++◌, length, get_or, take, drop, set, sym, refl, ap, ◌∙◌, ap₂, suc-mul, zero-mul, arith}
+use Rattle.std.specs.List.{between}
 use Rattle.std.proofs.lemmas.List.FromFn.{length-map-range_with_len, get_or-map-range_with_len}
 use Rattle.std.proofs.lemmas.List.{drop_at, ext_get_or, get_or_append_left, get_or-set_other, get_or-set_same, get_or-take, length-append, length-set, length-take-le, take-append-drop}
 use Rattle.std.proofs.lemmas.Slice.{between_to_end}
 use Rattle.levels.specs.Layouts.{Reaches, end_of}
-use Rattle.levels.specs.Numbers.{digits, level, levels, plane, sorted}
+use Rattle.levels.specs.Numbers.{level, levels, plane, sorted}
 use Rattle.levels.specs.declared.layout.Layout.{Layout}
 use Rattle.levels.proofs.Ends.{ends_is}
 use Rattle.levels.proofs.Leveled.{length_level}

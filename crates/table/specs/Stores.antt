@@ -2,7 +2,6 @@
 use Rattle.std.specs.Prelude.{◌≡◌, ℕ, ◌+◌, ◌*◌, ◌/◌, ◌%◌, ◌^◌, ◌<◌, Bool, cond, ◌&&◌, ◌||◌, List, nat_lt, slice_index}
 use Rattle.levels.specs.Numbers.{digits}
 use Rattle.levels.specs.Spans.{value_at}
-use Rattle.levels.specs.Traces.{Traced}
 use Rattle.levels.specs.declared.layout.Layout.{Layout}
 use Rattle.pattern.specs.Sparsity.{Sparsity, row_count}
 use Rattle.table.specs.Codes.{codes}

@@ -32,7 +32,7 @@ fn start_is(words: &[u64], row: u32, start: u32) -> bool
 /// Whether the sizes are those of a pattern.
 fn sizes_match<P: Pattern>(pattern: &P, words: &[u64]) -> bool
     requires { 3 ≤ length words.now }
-    ensures { MatchBool result (Sized (sparsity pattern.now) words.now) (Sized (sparsity pattern.now) words.now → ⊥) }
+    ensures { MatchBool result (Sized (P.sparsity pattern.now) words.now) (Sized (P.sparsity pattern.now) words.now → ⊥) }
 {
     sizes_are(
         words,
@@ -44,8 +44,8 @@ fn sizes_match<P: Pattern>(pattern: &P, words: &[u64]) -> bool
 
 /// Whether the row starts are those of a pattern.
 fn starts_match<P: Pattern>(pattern: &P, words: &[u64]) -> bool
-    requires { 4 + row_count (sparsity pattern.now) ≤ length words.now }
-    ensures { MatchBool result (Started (sparsity pattern.now) words.now) (Started (sparsity pattern.now) words.now → ⊥) }
+    requires { 4 + row_count (P.sparsity pattern.now) ≤ length words.now }
+    ensures { MatchBool result (Started (P.sparsity pattern.now) words.now) (Started (P.sparsity pattern.now) words.now → ⊥) }
 {
     let mut start = 0;
     for row in 0..pattern.row_count() + 1 {
@@ -93,10 +93,10 @@ fn window_found<P: Pattern>(
     entries: u32,
     first: u32,
 ) -> bool
-    requires laid { LaidOut (sparsity pattern.now) layout.now }
-    requires total { entries ≡ total_entries (sparsity pattern.now) }
+    requires laid { LaidOut (P.sparsity pattern.now) layout.now }
+    requires total { entries ≡ total_entries (P.sparsity pattern.now) }
     requires standing { Standing layout.now words.now }
-    ensures { MatchBool result (WindowFound (sparsity pattern.now) first 262144 layout.now words.now) (AllFound (sparsity pattern.now) layout.now words.now → ⊥) }
+    ensures { MatchBool result (WindowFound (P.sparsity pattern.now) first 262144 layout.now words.now) (AllFound (P.sparsity pattern.now) layout.now words.now → ⊥) }
 {
     let mut window = [0u32; 262144];
     let mut cursor = Cursor::start(pattern);
@@ -112,10 +112,10 @@ fn window_found<P: Pattern>(
 
 /// Whether the codes of all entries are found.
 fn codes_found<P: Pattern>(pattern: &P, words: &[u64], layout: &Layout, entries: u32) -> bool
-    requires laid { LaidOut (sparsity pattern.now) layout.now }
-    requires total { entries ≡ total_entries (sparsity pattern.now) }
+    requires laid { LaidOut (P.sparsity pattern.now) layout.now }
+    requires total { entries ≡ total_entries (P.sparsity pattern.now) }
     requires standing { Standing layout.now words.now }
-    ensures { MatchBool result (AllFound (sparsity pattern.now) layout.now words.now) (AllFound (sparsity pattern.now) layout.now words.now → ⊥) }
+    ensures { MatchBool result (AllFound (P.sparsity pattern.now) layout.now words.now) (AllFound (P.sparsity pattern.now) layout.now words.now → ⊥) }
 {
     let columns = pattern.column_count();
     let mut first = 0;
@@ -130,8 +130,8 @@ fn codes_found<P: Pattern>(pattern: &P, words: &[u64], layout: &Layout, entries:
 
 /// Whether memory of the length of a pattern's table is that table.
 fn is_table<P: Pattern>(pattern: &P, words: &[u64]) -> bool
-    requires { length words.now ≡ length (table_words (sparsity pattern.now)) }
-    ensures { MatchBool result (words.now ≡ table_words (sparsity pattern.now)) (words.now ≢ table_words (sparsity pattern.now)) }
+    requires { length words.now ≡ length (table_words (P.sparsity pattern.now)) }
+    ensures { MatchBool result (words.now ≡ table_words (P.sparsity pattern.now)) (words.now ≢ table_words (P.sparsity pattern.now)) }
 {
     let layout = layout_of(pattern);
     if !sizes_match(pattern, words) {
@@ -149,7 +149,7 @@ fn is_table<P: Pattern>(pattern: &P, words: &[u64]) -> bool
 /// Checks that memory has the table of a pattern at its front. It stops at the first mismatch, and reads nothing that comes
 /// after the table.
 pub fn check_table<P: Pattern>(pattern: &P, words: &[u64]) -> Result<(), Refusal>
-    ensures { elim result [ Ok x ↦ IsTable (sparsity pattern.now) words.now | Err reason ↦ (reason ≡ Table) × (IsTable (sparsity pattern.now) words.now → ⊥) ] }
+    ensures { elim result [ Ok x ↦ IsTable (P.sparsity pattern.now) words.now | Err reason ↦ (reason ≡ Table) × (IsTable (P.sparsity pattern.now) words.now → ⊥) ] }
 {
     let need = table_size(pattern);
     if words.len() < need {

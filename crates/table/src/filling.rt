@@ -31,7 +31,7 @@ fn put_start(memory: &mut [u64], row: u32, start: u32)
 /// Writes the sizes of a pattern.
 fn write_sizes<P: Pattern>(pattern: &P, memory: &mut [u64])
     requires { 3 ≤ length memory.old }
-    ensures sizes { Sized (sparsity pattern.now) memory.new }
+    ensures sizes { Sized (P.sparsity pattern.now) memory.new }
 {
     put_sizes(
         memory,
@@ -43,9 +43,9 @@ fn write_sizes<P: Pattern>(pattern: &P, memory: &mut [u64])
 
 /// Writes the row starts of a pattern after its sizes.
 fn write_starts<P: Pattern>(pattern: &P, memory: &mut [u64])
-    requires { 4 + row_count (sparsity pattern.now) ≤ length memory.old }
-    ensures starts { Started (sparsity pattern.now) memory.new }
-    ensures outside { Outside 3 (4 + row_count (sparsity pattern.now)) memory.old memory.new }
+    requires { 4 + row_count (P.sparsity pattern.now) ≤ length memory.old }
+    ensures starts { Started (P.sparsity pattern.now) memory.new }
+    ensures outside { Outside 3 (4 + row_count (P.sparsity pattern.now)) memory.old memory.new }
 {
     let mut start = 0;
     for row in 0..pattern.row_count() + 1 {
@@ -56,8 +56,8 @@ fn write_starts<P: Pattern>(pattern: &P, memory: &mut [u64])
 
 /// Writes the table of a pattern into memory of its length.
 fn write_table<P: Pattern>(pattern: &P, memory: &mut [u64])
-    requires { length memory.old ≡ length (table_words (sparsity pattern.now)) }
-    ensures { memory.new ≡ table_words (sparsity pattern.now) }
+    requires { length memory.old ≡ length (table_words (P.sparsity pattern.now)) }
+    ensures { memory.new ≡ table_words (P.sparsity pattern.now) }
 {
     let layout = layout_of(pattern);
     write_sizes(pattern, memory);
@@ -69,7 +69,7 @@ fn write_table<P: Pattern>(pattern: &P, memory: &mut [u64])
 
 /// Writes the table of a pattern at the front of memory, where there is room for it. What comes after stays as it was.
 pub fn fill<P: Pattern>(pattern: &P, memory: &mut [u64]) -> Result<(), Refusal>
-    ensures { elim result [ Ok x ↦ (length (table_words (sparsity pattern.now)) ≤ length memory.old) × (memory.new ≡ table_words (sparsity pattern.now) ++ drop (length (table_words (sparsity pattern.now))) memory.old) | Err reason ↦ (reason ≡ Table) × (length memory.old < length (table_words (sparsity pattern.now))) × (memory.new ≡ memory.old) ] }
+    ensures { elim result [ Ok x ↦ (length (table_words (P.sparsity pattern.now)) ≤ length memory.old) × (memory.new ≡ table_words (P.sparsity pattern.now) ++ drop (length (table_words (P.sparsity pattern.now))) memory.old) | Err reason ↦ (reason ≡ Table) × (length memory.old < length (table_words (P.sparsity pattern.now))) × (memory.new ≡ memory.old) ] }
 {
     let need = table_size(pattern);
     if memory.len() < need {

@@ -16,7 +16,7 @@ impl<P: Pattern> Opened<P> {
     /// Opens a table over a pattern: exactly where the memory has this pattern's table at its front. Otherwise both are the
     /// caller's again.
     pub fn open(pattern: P, words: Vec<u64>) -> Result<Opened<P>, Declined<(P, Vec<u64>)>>
-        ensures { elim result [ Ok o ↦ IsTable (sparsity pattern) words.items × (pattern_of o ≡ pattern) × (o.words ≡ words) | Err d ↦ (d.reason ≡ Table) × (IsTable (sparsity pattern) words.items → ⊥) × (d.brought ≡ (pattern, words)) ] }
+        ensures { elim result [ Ok o ↦ IsTable (P.sparsity pattern) words.items × (pattern_of o ≡ pattern) × (o.words ≡ words) | Err d ↦ (d.reason ≡ Table) × (IsTable (P.sparsity pattern) words.items → ⊥) × (d.brought ≡ (pattern, words)) ] }
     {
         match check_table(&pattern, words.as_slice()) {
             Ok(()) => Ok(Opened { pattern, words }),

@@ -17,7 +17,7 @@ fn after_starts(rows: u32) -> u32
 
 /// How many entries a pattern has.
 pub(crate) fn entry_total<P: Pattern>(pattern: &P) -> u32
-    ensures value { result ≡ total_entries (sparsity pattern.now) }
+    ensures value { result ≡ total_entries (P.sparsity pattern.now) }
     ensures few { result ≤ 16777216 }
 {
     pattern.entries_between(0, pattern.row_count())
@@ -25,8 +25,8 @@ pub(crate) fn entry_total<P: Pattern>(pattern: &P) -> u32
 
 /// Where the codes of a pattern stand in its table.
 pub(crate) fn layout_of<P: Pattern>(pattern: &P) -> Layout
-    ensures laid { LaidOut (sparsity pattern.now) result }
-    ensures least { (row_count (sparsity pattern.now) < 2 ^ result.bits) × (((h : ℕ) → row_count (sparsity pattern.now) < 2 ^ h → result.bits ≤ h)) }
+    ensures laid { LaidOut (P.sparsity pattern.now) result }
+    ensures least { (row_count (P.sparsity pattern.now) < 2 ^ result.bits) × (((h : ℕ) → row_count (P.sparsity pattern.now) < 2 ^ h → result.bits ≤ h)) }
 {
     let rows = pattern.row_count();
     Layout::new(after_starts(rows), entry_total(pattern), rows)
@@ -34,8 +34,8 @@ pub(crate) fn layout_of<P: Pattern>(pattern: &P) -> Layout
 
 /// How many words the table of a pattern has.
 pub fn table_size<P: Pattern>(pattern: &P) -> usize
-    ensures words { result ≡ length (table_words (sparsity pattern.now)) }
-    ensures value { (h : ℕ) × ((result ≡ 3 + (row_count (sparsity pattern.now) + 1) + h * (2 * ((total_entries (sparsity pattern.now) + 63) / 64) + 2)) × (row_count (sparsity pattern.now) < 2 ^ h) × ((g : ℕ) → row_count (sparsity pattern.now) < 2 ^ g → h ≤ g)) }
+    ensures words { result ≡ length (table_words (P.sparsity pattern.now)) }
+    ensures value { (h : ℕ) × ((result ≡ 3 + (row_count (P.sparsity pattern.now) + 1) + h * (2 * ((total_entries (P.sparsity pattern.now) + 63) / 64) + 2)) × (row_count (P.sparsity pattern.now) < 2 ^ h) × ((g : ℕ) → row_count (P.sparsity pattern.now) < 2 ^ g → h ≤ g)) }
 {
     layout_of(pattern).end()
 }

@@ -1,4 +1,4 @@
-ghost use Rattle.std.specs.Prelude.{◌≡◌, ℕ, ◌+◌, ◌-◌, ◌*◌, ◌/◌, ◌%◌, ◌^◌, ◌<◌, ◌≤◌, min, false, MatchBool, ◌≢◌, slice_index, slice_index_or};
+ghost use Rattle.std.specs.Prelude.{◌≡◌, ℕ, ◌+◌, ◌-◌, ◌*◌, ◌/◌, ◌%◌, ◌^◌, ◌<◌, ◌≤◌, min, true, false, MatchBool, ◌≢◌, slice_index, slice_index_or};
 ghost use Rattle.levels.specs.Layouts.{Reaches, end_of};
 ghost use Rattle.levels.specs.Planes.{Outside};
 ghost use Rattle.table.specs.Codes.{codes as codes_of};
@@ -35,7 +35,7 @@ pub(crate) fn next_window(first: u32) -> u32
 impl Batch {
     /// Whether some entry has its column in the window.
     fn any(&self) -> bool
-        ensures { MatchBool result (self.now ≡ self.now) ((k : ℕ) → k < 64 → slice_index_or self.now.inside k false ≡ false) }
+        ensures { MatchBool result ((k : ℕ) × ((k < 64) × (slice_index_or self.now.inside k false ≡ true))) ((k : ℕ) → k < 64 → slice_index_or self.now.inside k false ≡ false) }
     {
         for k in 0..64 {
             if self.inside[k] {
@@ -68,11 +68,11 @@ fn store_window<P: Pattern>(
     entries: u32,
     first: u32,
 )
-    requires laid { LaidOut (sparsity pattern.now) layout.now }
-    requires total { entries ≡ total_entries (sparsity pattern.now) }
+    requires laid { LaidOut (P.sparsity pattern.now) layout.now }
+    requires total { entries ≡ total_entries (P.sparsity pattern.now) }
     requires reaches { Reaches layout.now memory.old }
-    requires before { Stored (sparsity pattern.now) first 262144 0 layout.now memory.old }
-    ensures after { Stored (sparsity pattern.now) (first + 262144) 262144 0 layout.now memory.new }
+    requires before { Stored (P.sparsity pattern.now) first 262144 0 layout.now memory.old }
+    ensures after { Stored (P.sparsity pattern.now) (first + 262144) 262144 0 layout.now memory.new }
     ensures outside { Outside layout.now.start (end_of layout.now) memory.old memory.new }
 {
     let mut window = [0u32; 262144];
@@ -91,11 +91,11 @@ pub(crate) fn store_codes<P: Pattern>(
     layout: &Layout,
     entries: u32,
 )
-    requires laid { LaidOut (sparsity pattern.now) layout.now }
-    requires total { entries ≡ total_entries (sparsity pattern.now) }
+    requires laid { LaidOut (P.sparsity pattern.now) layout.now }
+    requires total { entries ≡ total_entries (P.sparsity pattern.now) }
     requires reaches { Reaches layout.now memory.old }
     requires clear { (q : ℕ) → q < 64 * layout.now.words → placed layout.now memory.old q ≡ 0 }
-    ensures codes { (q : ℕ) → q < 64 * layout.now.words → placed layout.now memory.new q ≡ slice_index (codes_of (sparsity pattern.now)) q % 2 ^ layout.now.bits }
+    ensures codes { (q : ℕ) → q < 64 * layout.now.words → placed layout.now memory.new q ≡ slice_index (codes_of (P.sparsity pattern.now)) q % 2 ^ layout.now.bits }
     ensures outside { Outside layout.now.start (end_of layout.now) memory.old memory.new }
 {
     let columns = pattern.column_count();

@@ -52,7 +52,7 @@ fn replace(window: &mut [u32], place: usize, code: u32) -> u32
 impl Cursor {
     /// The first place of the first row.
     pub(crate) fn start<P: Pattern>(pattern: &P) -> Cursor
-        ensures { (result.row ≡ 0) × (result.place ≡ 0) × (result.size ≡ entry_count (sparsity pattern.now) 0) }
+        ensures { (result.row ≡ 0) × (result.place ≡ 0) × (result.size ≡ entry_count (P.sparsity pattern.now) 0) }
     {
         Cursor {
             row: 0,
@@ -64,12 +64,12 @@ impl Cursor {
 
 /// Goes on to a row that has an entry left.
 fn skip_empty_rows<P: Pattern>(pattern: &P, cursor: &mut Cursor)
-    requires stands { Stands (sparsity pattern.now) cursor.old }
-    requires more { place_of (sparsity pattern.now) cursor.old < entries_between (sparsity pattern.now) 0 (row_count (sparsity pattern.now)) }
-    ensures stands { Stands (sparsity pattern.now) cursor.new }
-    ensures same { place_of (sparsity pattern.now) cursor.new ≡ place_of (sparsity pattern.now) cursor.old }
+    requires stands { Stands (P.sparsity pattern.now) cursor.old }
+    requires more { place_of (P.sparsity pattern.now) cursor.old < entries_between (P.sparsity pattern.now) 0 (row_count (P.sparsity pattern.now)) }
+    ensures stands { Stands (P.sparsity pattern.now) cursor.new }
+    ensures same { place_of (P.sparsity pattern.now) cursor.new ≡ place_of (P.sparsity pattern.now) cursor.old }
     ensures left { cursor.new.place < cursor.new.size }
-    ensures knows { (first : ℕ) (window : List ℕ) → Knows (sparsity pattern.now) cursor.old first window → Knows (sparsity pattern.now) cursor.new first window }
+    ensures knows { (first : ℕ) (window : List ℕ) → Knows (P.sparsity pattern.now) cursor.old first window → Knows (P.sparsity pattern.now) cursor.new first window }
 {
     while cursor.place >= cursor.size {
         cursor.row += 1;
@@ -85,13 +85,13 @@ fn next_code<P: Pattern>(
     window: &mut [u32],
     first: u32,
 ) -> Option<u32>
-    requires stands { Stands (sparsity pattern.now) cursor.old }
+    requires stands { Stands (P.sparsity pattern.now) cursor.old }
     requires left { cursor.old.place < cursor.old.size }
-    requires knows { Knows (sparsity pattern.now) cursor.old first window.old }
-    ensures stands { Stands (sparsity pattern.now) cursor.new }
-    ensures moved { place_of (sparsity pattern.now) cursor.new ≡ place_of (sparsity pattern.now) cursor.old + 1 }
-    ensures knows { Knows (sparsity pattern.now) cursor.new first window.new }
-    ensures value { result ≡ shown (sparsity pattern.now) first (length window.old) (place_of (sparsity pattern.now) cursor.old) }
+    requires knows { Knows (P.sparsity pattern.now) cursor.old first window.old }
+    ensures stands { Stands (P.sparsity pattern.now) cursor.new }
+    ensures moved { place_of (P.sparsity pattern.now) cursor.new ≡ place_of (P.sparsity pattern.now) cursor.old + 1 }
+    ensures knows { Knows (P.sparsity pattern.now) cursor.new first window.new }
+    ensures value { result ≡ shown (P.sparsity pattern.now) first (length window.old) (place_of (P.sparsity pattern.now) cursor.old) }
 {
     let column = pattern.column(cursor.row, cursor.place);
     cursor.place += 1;
@@ -131,13 +131,13 @@ pub(crate) fn next_batch<P: Pattern>(
     first: u32,
     count: usize,
 ) -> Batch
-    requires stands { Stands (sparsity pattern.now) cursor.old }
-    requires knows { Knows (sparsity pattern.now) cursor.old first window.old }
-    requires count { (count ≤ 64) × (place_of (sparsity pattern.now) cursor.old + count ≤ entries_between (sparsity pattern.now) 0 (row_count (sparsity pattern.now))) }
-    ensures stands { Stands (sparsity pattern.now) cursor.new }
-    ensures moved { place_of (sparsity pattern.now) cursor.new ≡ place_of (sparsity pattern.now) cursor.old + count }
-    ensures knows { Knows (sparsity pattern.now) cursor.new first window.new }
-    ensures batch { Batched (sparsity pattern.now) first (length window.old) (place_of (sparsity pattern.now) cursor.old) count result }
+    requires stands { Stands (P.sparsity pattern.now) cursor.old }
+    requires knows { Knows (P.sparsity pattern.now) cursor.old first window.old }
+    requires count { (count ≤ 64) × (place_of (P.sparsity pattern.now) cursor.old + count ≤ entries_between (P.sparsity pattern.now) 0 (row_count (P.sparsity pattern.now))) }
+    ensures stands { Stands (P.sparsity pattern.now) cursor.new }
+    ensures moved { place_of (P.sparsity pattern.now) cursor.new ≡ place_of (P.sparsity pattern.now) cursor.old + count }
+    ensures knows { Knows (P.sparsity pattern.now) cursor.new first window.new }
+    ensures batch { Batched (P.sparsity pattern.now) first (length window.old) (place_of (P.sparsity pattern.now) cursor.old) count result }
 {
     let mut batch = Batch::empty();
     for place in 0..count {

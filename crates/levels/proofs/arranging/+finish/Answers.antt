@@ -1,4 +1,4 @@
-use Rattle.std.proofs.Common.{◌≡◌, ℕ, ◌+◌, ◌-◌, ◌*◌, ◌/◌, ◌<◌, ◌≤◌, length, get_or, sym, refl, ap, ◌∙◌, subst, arith}
+use Rattle.std.proofs.Common.{◌≡◌, ◌+◌, ◌-◌, ◌*◌, ◌/◌, sym, ap, ◌∙◌, subst, arith}
 use Rattle.std.specs.List.{between}
 use Rattle.std.proofs.lemmas.List.Edits.{between_none}
 use Rattle.levels.specs.Numbers.{levels, sorted}
@@ -14,16 +14,19 @@ use Rattle.levels.proofs.arranging.+finish.Goals as goal
 pub settle-zeros-requires : goal.settle-zeros-requires
 settle-zeros-requires t c =
     let r = room_for c.args.b c.args.t c.args.at c.if-t-gt0.true in
-    ((omega arith, (omega arith, omega arith)), (tails_more c.args.b c.args.t c.if-t-gt0.true c.args.n c.args.ws.now c.args.at c.requires.tails).0)
+    record {
+      b_in_bounds = (omega arith, (omega arith, omega arith));
+      by_index = (tails_more c.args.b c.args.t c.if-t-gt0.true c.args.n c.args.ws.now c.args.at c.requires.tails).0;
+    }
 
-pub overflow-add-at : goal.overflow-add-at
-overflow-add-at t c = omega (arith, room_for c.args.b c.args.t c.args.at c.if-t-gt0.true)
+pub overflow_add-at : goal.overflow_add-at
+overflow_add-at t c = omega (arith, room_for c.args.b c.args.t c.args.at c.if-t-gt0.true)
 
-pub overflow-add-at-then-t-gt0 : goal.overflow-add-at-then-t-gt0
-overflow-add-at-then-t-gt0 t c = omega (arith, room_for c.args.b c.args.t c.args.at c.if-t-gt0.true)
+pub overflow_add-at-then-t-gt0 : goal.overflow_add-at-then-t-gt0
+overflow_add-at-then-t-gt0 t c = omega (arith, room_for c.args.b c.args.t c.args.at c.if-t-gt0.true)
 
-pub overflow-add-at-then-t-gt0-2 : goal.overflow-add-at-then-t-gt0-2
-overflow-add-at-then-t-gt0-2 t c = omega (arith, room_for c.args.b c.args.t c.args.at c.if-t-gt0.true)
+pub overflow_add-at-then-t-gt0-2 : goal.overflow_add-at-then-t-gt0-2
+overflow_add-at-then-t-gt0-2 t c = omega (arith, room_for c.args.b c.args.t c.args.at c.if-t-gt0.true)
 
 pub partition-requires : goal.partition-requires
 partition-requires t c =
@@ -43,17 +46,8 @@ finish-requires t c =
     let e = ends_more c.args.b c.args.t c.args.at c.if-t-gt0.true in (
       omega (arith, c.decreases),
       (
-        omega arith,
-        (
-          omega arith,
-          (
-            omega arith,
-            (
-              omega arith,
-              routed_tails (bits_from c.settle-zeros.new.ws (c.args.at + 1)) c.args.b c.args.n (c.args.t - 1) c.settle-zeros.new.ws c.partition.new.ws (c.args.at + (2 * c.args.b + 2)) c.partition.ensures.routed,
-            ),
-          ),
-        ),
+        (omega arith, (omega arith, (omega arith, omega arith))),
+        routed_tails (bits_from c.settle-zeros.new.ws (c.args.at + 1)) c.args.b c.args.n (c.args.t - 1) c.settle-zeros.new.ws c.partition.new.ws (c.args.at + (2 * c.args.b + 2)) c.partition.ensures.routed,
       ),
     )
 

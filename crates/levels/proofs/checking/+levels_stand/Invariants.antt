@@ -1,4 +1,4 @@
 use Rattle.levels.proofs.checking.+levels_stand.Given as goal
 
-abbrev pub decreases-levels-stand : goal.decreases-levels-stand
-decreases-levels-stand l = l.t
+abbrev pub decreases-levels_stand : goal.decreases-levels_stand
+decreases-levels_stand l = l.t

@@ -1,6 +1,4 @@
-use Rattle.std.proofs.Common.{◌≡◌, ℕ, ◌+◌, ◌*◌, ◌/◌, ◌%◌, ◌^◌, ◌<◌, ◌≤◌, Bool, true, false, eqb, get_or, MatchBool, sym, subst, ⊎_elim, arith}
-use Rattle.std.proofs.lemmas.Bool.{cases_eq, eq-eqb, ne_eqb}
-use Rattle.levels.specs.Planes.{bits_from}
+use Rattle.std.proofs.Common.{◌+◌, ◌/◌, ◌^◌, ◌<◌, get_or, arith}
 use Rattle.levels.proofs.Deciding.{when_same}
 use Rattle.levels.proofs.Tails.{tail_zero, zero_tail}
 use Rattle.levels.proofs.checking.tail_clear.Goals as goal
@@ -8,8 +6,8 @@ use Rattle.levels.proofs.checking.tail_clear.Goals as goal
 pub returns-else-n-eq0 : goal.returns-else-n-eq0
 returns-else-n-eq0 c =
     let ws = c.args.ws.now in
-    let small : get_or ws (c.args.a + c.args.n / 64) 0 < 2 ^ 64 = omega (arith, c.type-inv.ws (c.args.a + c.args.n / 64)) in
-    when_same c.clear-from.result
+    let small : get_or ws (c.args.a + c.args.n / 64) 0 < 2 ^ 64 = omega (arith, c.type_inv.ws (c.args.a + c.args.n / 64)) in
+    when_same c.clear_from.result
     (tail_zero ws c.args.a c.args.b c.args.n (omega arith) (omega arith) c.if-n-eq0.false)
     (zero_tail ws c.args.a c.args.b c.args.n (omega arith) (omega arith) c.if-n-eq0.false small)
-    c.clear-from.ensures
+    c.clear_from.ensures

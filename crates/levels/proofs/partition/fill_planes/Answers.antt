@@ -8,18 +8,18 @@ use Rattle.levels.proofs.partition.fill_planes.Goals as goal
 pub loop-k-init : goal.loop-k-init
 loop-k-init c = upto_none c.args.b c.args.at (Filled c.args.b) c.args.ws.now
 
-pub overflow-add-level : goal.overflow-add-level
-overflow-add-level c =
+pub overflow_add-level : goal.overflow_add-level
+overflow_add-level c =
     let e = c.loop-k.invariant.0 in
     let r = room_within c.args.b c.loop-k.k c.args.t c.args.at c.loop-k-test.true in omega arith
 
-pub overflow-add-level-in-loop-k : goal.overflow-add-level-in-loop-k
-overflow-add-level-in-loop-k c =
+pub overflow_add-level-in-loop-k : goal.overflow_add-level-in-loop-k
+overflow_add-level-in-loop-k c =
     let e = c.loop-k.invariant.0 in
     let r = room_within c.args.b c.loop-k.k c.args.t c.args.at c.loop-k-test.true in omega arith
 
-pub overflow-add-level-in-loop-k-2 : goal.overflow-add-level-in-loop-k-2
-overflow-add-level-in-loop-k-2 c =
+pub overflow_add-level-in-loop-k-2 : goal.overflow_add-level-in-loop-k-2
+overflow_add-level-in-loop-k-2 c =
     let e = c.loop-k.invariant.0 in
     let r = room_within c.args.b c.loop-k.k c.args.t c.args.at c.loop-k-test.true in omega arith
 
@@ -28,18 +28,18 @@ shift-requires c =
     let e = c.loop-k.invariant.0 in
     let r = room_within c.args.b c.loop-k.k c.args.t c.args.at c.loop-k-test.true in (omega arith, omega arith)
 
-pub overflow-mul-level : goal.overflow-mul-level
-overflow-mul-level c =
+pub overflow_mul-level : goal.overflow_mul-level
+overflow_mul-level c =
     let e = c.loop-k.invariant.0 in
     let r = room_within c.args.b c.loop-k.k c.args.t c.args.at c.loop-k-test.true in omega arith
 
-pub overflow-add-level-in-loop-k-3 : goal.overflow-add-level-in-loop-k-3
-overflow-add-level-in-loop-k-3 c =
+pub overflow_add-level-in-loop-k-3 : goal.overflow_add-level-in-loop-k-3
+overflow_add-level-in-loop-k-3 c =
     let e = c.loop-k.invariant.0 in
     let r = room_within c.args.b c.loop-k.k c.args.t c.args.at c.loop-k-test.true in omega arith
 
-pub overflow-add-level-in-loop-k-4 : goal.overflow-add-level-in-loop-k-4
-overflow-add-level-in-loop-k-4 c =
+pub overflow_add-level-in-loop-k-4 : goal.overflow_add-level-in-loop-k-4
+overflow_add-level-in-loop-k-4 c =
     let e = c.loop-k.invariant.0 in
     let r = room_within c.args.b c.loop-k.k c.args.t c.args.at c.loop-k-test.true in omega arith
 

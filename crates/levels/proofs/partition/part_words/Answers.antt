@@ -9,18 +9,18 @@ use Rattle.levels.proofs.partition.part_words.Goals as goal
 pub loop-k-init : goal.loop-k-init
 loop-k-init c = upto_none c.args.b c.args.at (Grown (selection c.args.zeros.now) (selection c.args.ones.now) c.args.b c.args.i c.args.lo c.args.hi) c.args.ws.now
 
-pub overflow-add-x : goal.overflow-add-x
-overflow-add-x c =
+pub overflow_add-x : goal.overflow_add-x
+overflow_add-x c =
     let e = c.loop-k.invariant.0 in
     let r = room_within c.args.b c.loop-k.k c.args.t c.args.at c.loop-k-test.true in omega arith
 
-pub overflow-add-x-in-loop-k : goal.overflow-add-x-in-loop-k
-overflow-add-x-in-loop-k c =
+pub overflow_add-x-in-loop-k : goal.overflow_add-x-in-loop-k
+overflow_add-x-in-loop-k c =
     let e = c.loop-k.invariant.0 in
     let r = room_within c.args.b c.loop-k.k c.args.t c.args.at c.loop-k-test.true in omega arith
 
-pub offset-bounds-ws-level : goal.offset-bounds-ws-level
-offset-bounds-ws-level c =
+pub offset_bounds-ws-level : goal.offset_bounds-ws-level
+offset_bounds-ws-level c =
     let e = c.loop-k.invariant.0 in
     let r = room_within c.args.b c.loop-k.k c.args.t c.args.at c.loop-k-test.true in omega arith
 
@@ -29,33 +29,33 @@ bounds-ws-level c =
     let e = c.loop-k.invariant.0 in
     let r = room_within c.args.b c.loop-k.k c.args.t c.args.at c.loop-k-test.true in omega arith
 
-pub overflow-add-level : goal.overflow-add-level
-overflow-add-level c =
+pub overflow_add-level : goal.overflow_add-level
+overflow_add-level c =
     let e = c.loop-k.invariant.0 in
     let r = room_within c.args.b c.loop-k.k c.args.t c.args.at c.loop-k-test.true in omega arith
 
-pub overflow-add-level-in-loop-k : goal.overflow-add-level-in-loop-k
-overflow-add-level-in-loop-k c =
+pub overflow_add-level-in-loop-k : goal.overflow_add-level-in-loop-k
+overflow_add-level-in-loop-k c =
     let e = c.loop-k.invariant.0 in
     let r = room_within c.args.b c.loop-k.k c.args.t c.args.at c.loop-k-test.true in omega arith
 
-pub part-word-requires : goal.part-word-requires
-part-word-requires c =
+pub part_word-requires : goal.part_word-requires
+part_word-requires c =
     let e = c.loop-k.invariant.0 in
     let r = room_within c.args.b c.loop-k.k c.args.t c.args.at c.loop-k-test.true in (omega arith, (omega arith, (omega arith, omega arith)))
 
-pub overflow-mul-level : goal.overflow-mul-level
-overflow-mul-level c =
+pub overflow_mul-level : goal.overflow_mul-level
+overflow_mul-level c =
     let e = c.loop-k.invariant.0 in
     let r = room_within c.args.b c.loop-k.k c.args.t c.args.at c.loop-k-test.true in omega arith
 
-pub overflow-add-level-in-loop-k-2 : goal.overflow-add-level-in-loop-k-2
-overflow-add-level-in-loop-k-2 c =
+pub overflow_add-level-in-loop-k-2 : goal.overflow_add-level-in-loop-k-2
+overflow_add-level-in-loop-k-2 c =
     let e = c.loop-k.invariant.0 in
     let r = room_within c.args.b c.loop-k.k c.args.t c.args.at c.loop-k-test.true in omega arith
 
-pub overflow-add-level-in-loop-k-3 : goal.overflow-add-level-in-loop-k-3
-overflow-add-level-in-loop-k-3 c =
+pub overflow_add-level-in-loop-k-3 : goal.overflow_add-level-in-loop-k-3
+overflow_add-level-in-loop-k-3 c =
     let e = c.loop-k.invariant.0 in
     let r = room_within c.args.b c.loop-k.k c.args.t c.args.at c.loop-k-test.true in omega arith
 
@@ -64,9 +64,9 @@ loop-k-preserved c =
     let b = c.args.b in
     let e = c.loop-k.level in
     let mid = c.loop-k.ws in
-    let is = c.part-word.new.ws in
+    let is = c.part_word.new.ws in
     upto_next b c.args.at c.loop-k.k e (Grown (selection c.args.zeros.now) (selection c.args.ones.now) c.args.b c.args.i c.args.lo c.args.hi) c.args.ws.now mid is (grown_local (selection c.args.zeros.now) (selection c.args.ones.now) b c.args.i c.args.lo c.args.hi (omega arith)) c.loop-k.invariant
-    (outside_wide e (e + (2 * b + 2)) (e + 1 + b) (e + 1 + b + b + 1) mid is (omega arith) (omega arith) c.part-word.ensures.outside) ((λ j l. c.part-word.ensures.outside.0 (e + 1 + j) (omega arith)), c.part-word.ensures.bits)
+    (outside_wide e (e + (2 * b + 2)) (e + 1 + b) (e + 1 + b + b + 1) mid is (omega arith) (omega arith) c.part_word.ensures.outside) ((λ j l. c.part_word.ensures.outside.0 (e + 1 + j) (omega arith)), c.part_word.ensures.bits)
 
 pub returns : goal.returns
 returns c =

@@ -11,46 +11,46 @@ use Rattle.levels.proofs.partition.partition.Goals as goal
 pub loop-i-init : goal.loop-i-init
 loop-i-init c =
     let was = c.args.ws.now in
-    let mid = c.wipe-rooms.new.ws in
-    let o = c.wipe-rooms.ensures.outside in
-    let w = c.wipe-rooms.ensures.wiped in
+    let mid = c.wipe_rooms.new.ws in
+    let o = c.wipe_rooms.ensures.outside in
+    let w = c.wipe_rooms.ensures.wiped in
     let e = sum_none (bits_from mid c.args.sel) in (
       count_same was mid c.args.sel c.args.at c.args.b c.args.n c.args.zeros c.args.t (omega arith) (omega arith) o w c.requires.count,
-      omega (arith, e, c.first-places-lo.ensures.0),
-      omega (arith, e, c.first-places-lo.ensures.1),
+      omega (arith, e, c.first_places-lo.ensures.0),
+      omega (arith, e, c.first_places-lo.ensures.1),
       tails_same was mid c.args.sel c.args.at c.args.b c.args.n c.args.zeros c.args.t (omega arith) (omega arith) o w c.requires.tails,
       parted_start was mid c.args.sel c.args.at c.args.b c.args.n c.args.zeros c.args.t (omega arith) (omega arith) o w (omega (arith, c.requires.count)),
       outside_self _ _ mid,
     )
 
-pub offset-bounds-ws-sel : goal.offset-bounds-ws-sel
-offset-bounds-ws-sel c = let l = ends_le c.args.b c.args.t c.args.at in omega arith
+pub offset_bounds-ws-sel : goal.offset_bounds-ws-sel
+offset_bounds-ws-sel c = let l = ends_le c.args.b c.args.t c.args.at in omega arith
 
 pub bounds-ws-sel : goal.bounds-ws-sel
 bounds-ws-sel c = let l = ends_le c.args.b c.args.t c.args.at in omega arith
 
-pub part-words-requires : goal.part-words-requires
-part-words-requires c =
+pub part_words-requires : goal.part_words-requires
+part_words-requires c =
     let v = c.loop-i.invariant in
-    let r = in_reach c.wipe-rooms.new.ws c.args.sel c.args.b c.args.n c.args.zeros c.loop-i.i c.loop-i.lo c.loop-i.hi (omega arith) (omega arith) (omega arith) v.0 v.1 v.2 in
+    let r = in_reach c.wipe_rooms.new.ws c.args.sel c.args.b c.args.n c.args.zeros c.loop-i.i c.loop-i.lo c.loop-i.hi (omega arith) (omega arith) (omega arith) v.0 v.1 v.2 in
     (omega arith, (omega arith, (omega arith, (omega (arith, r.0), omega (arith, r.1)))))
 
-pub overflow-add-lo : goal.overflow-add-lo
-overflow-add-lo c =
-    let l = ends_le c.args.b c.args.t c.args.at in omega (arith, c.loop-i.invariant.1, c.set-bits-set.ensures.bound)
+pub overflow_add-lo : goal.overflow_add-lo
+overflow_add-lo c =
+    let l = ends_le c.args.b c.args.t c.args.at in omega (arith, c.loop-i.invariant.1, c.set_bits-set.ensures.bound)
 
-pub overflow-add-hi : goal.overflow-add-hi
-overflow-add-hi c =
+pub overflow_add-hi : goal.overflow_add-hi
+overflow_add-hi c =
     let v = c.loop-i.invariant in
-    let r = in_reach c.wipe-rooms.new.ws c.args.sel c.args.b c.args.n c.args.zeros c.loop-i.i c.loop-i.lo c.loop-i.hi (omega arith) (omega arith) (omega arith) v.0 v.1 v.2 in
+    let r = in_reach c.wipe_rooms.new.ws c.args.sel c.args.b c.args.n c.args.zeros c.loop-i.i c.loop-i.lo c.loop-i.hi (omega arith) (omega arith) (omega arith) v.0 v.1 v.2 in
     let l = ends_le c.args.b c.args.t c.args.at in
-    omega (arith, r.1, c.set-bits-set.ensures.bound)
+    omega (arith, r.1, c.set_bits-set.ensures.bound)
 
 pub loop-i-preserved : goal.loop-i-preserved
 loop-i-preserved c =
-    let mid = c.wipe-rooms.new.ws in
+    let mid = c.wipe_rooms.new.ws in
     let now = c.loop-i.ws in
-    let is = c.part-words.new.ws in
+    let is = c.part_words.new.ws in
     let sel = c.args.sel in
     let b = c.args.b in
     let i = c.loop-i.i in
@@ -60,27 +60,27 @@ loop-i-preserved c =
     let s = selection c.selecting-high.result in
     let e : s ≡ get_or now (sel + i) 0 = c.selecting-high.ensures in
     let w : s ≡ get_or mid (sel + i) 0 = e ∙ v.5.0 (sel + i) (omega arith) in
-    let n = counts_on mid sel b c.args.n c.args.zeros i lo hi (omega arith) (omega arith) (omega arith) v.0 v.1 v.2 s w c.set-bits-set.result
-    (c.set-bits-set.ensures.value ∙ ap (λ x. sum_to (bit_of x) 64) (sym e)) c.set-bits-set.ensures.bound in (
+    let n = counts_on mid sel b c.args.n c.args.zeros i lo hi (omega arith) (omega arith) (omega arith) v.0 v.1 v.2 s w c.set_bits-set.result
+    (c.set_bits-set.ensures.value ∙ ap (λ x. sum_to (bit_of x) 64) (sym e)) c.set_bits-set.ensures.bound in (
       v.0,
       n.0,
       n.1,
       v.3,
       parted_on mid sel b c.args.n c.args.zeros i lo hi (omega arith) (omega arith) (omega arith) v.0 v.1 v.2 s w (selection c.leaving-low.result)
-          (λ p h. c.leaving-low.ensures p h ∙ ap (λ x. 1 - bit_of x p) (sym e)) now is c.args.t c.args.at v.3 v.4 c.part-words.ensures.grown,
-      outside_then _ _ mid now is v.5 c.part-words.ensures.outside,
+          (λ p h. c.leaving-low.ensures p h ∙ ap (λ x. 1 - bit_of x p) (sym e)) now is c.args.t c.args.at v.3 v.4 c.part_words.ensures.grown,
+      outside_then _ _ mid now is v.5 c.part_words.ensures.outside,
     )
 
 pub returns : goal.returns
 returns c =
     let was = c.args.ws.now in
-    let mid = c.wipe-rooms.new.ws in
-    let is = c.fill-planes.new.ws in
+    let mid = c.wipe_rooms.new.ws in
+    let is = c.fill_planes.new.ws in
     let k : c.loop-i.i ≡ c.args.b = omega arith in
-    let o = c.wipe-rooms.ensures.outside in
+    let o = c.wipe_rooms.ensures.outside in
     let v = c.loop-i.invariant in
     record {
-      routed = parted_end was mid c.args.sel c.args.at c.args.b c.args.n c.args.zeros c.args.t (omega arith) (omega arith) o c.wipe-rooms.ensures.wiped
-          c.loop-i.ws is v.0 (rw k at v.4) c.fill-planes.ensures.filled;
-      outside = outside_then _ _ was mid is o (outside_then _ _ mid c.loop-i.ws is v.5 c.fill-planes.ensures.outside);
+      routed = parted_end was mid c.args.sel c.args.at c.args.b c.args.n c.args.zeros c.args.t (omega arith) (omega arith) o c.wipe_rooms.ensures.wiped
+          c.loop-i.ws is v.0 (rw k at v.4) c.fill_planes.ensures.filled;
+      outside = outside_then _ _ was mid is o (outside_then _ _ mid c.loop-i.ws is v.5 c.fill_planes.ensures.outside);
     }

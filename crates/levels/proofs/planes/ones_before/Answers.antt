@@ -1,4 +1,4 @@
-use Rattle.std.proofs.Common.{◌≡◌, ◌+◌, ◌-◌, ◌*◌, ◌/◌, ◌%◌, ◌^◌, ◌<◌, ◌≤◌, get_or, sym, ap, ◌∙◌, arith}
+use Rattle.std.proofs.Common.{◌≡◌, ◌+◌, ◌/◌, ◌^◌, ◌<◌, ◌≤◌, get_or, ap, ◌∙◌, arith}
 use native.Mathlib.Nat.{min-eq_left}
 use lib.Bits.{bit_and}
 use Rattle.gather.specs.Bits.{bit_of, sum_to}
@@ -12,9 +12,9 @@ returns c f =
     let ws = c.args.ws.now in
     let w = get_or ws (c.args.a + c.args.k / 64) 0 in
     let l = sum_bound (bits_from ws c.args.a) (bits_lt ws c.args.a) c.args.k in
-    let small : w < 2 ^ 64 = omega (arith, c.type-inv.ws (c.args.a + c.args.k / 64)) in
+    let small : w < 2 ^ 64 = omega (arith, c.type_inv.ws (c.args.a + c.args.k / 64)) in
     let e = rank_from ws c.args.a c.args.b c.args.k (omega arith) small f in
-    let s = c.set-bits.ensures.value ∙ ap (λ x. sum_to (bit_of (bit_and w x)) 64) c.lower.ensures in
-    let r : get_or ws (c.args.a + c.args.b + c.args.k / 64) 0 + c.set-bits.result ≡ sum_to (bits_from ws c.args.a) c.args.k = omega arith in
-    let u : get_or ws (c.args.a + c.args.b + c.args.k / 64) 0 + c.set-bits.result ≤ 18446744073709551615 = omega arith in
-    c.saturating-add.ensures ∙ min-eq_left u ∙ r
+    let s = c.set_bits.ensures.value ∙ ap (λ x. sum_to (bit_of (bit_and w x)) 64) c.lower.ensures in
+    let r : get_or ws (c.args.a + c.args.b + c.args.k / 64) 0 + c.set_bits.result ≡ sum_to (bits_from ws c.args.a) c.args.k = omega arith in
+    let u : get_or ws (c.args.a + c.args.b + c.args.k / 64) 0 + c.set_bits.result ≤ 18446744073709551615 = omega arith in
+    c.saturating_add.ensures ∙ min-eq_left u ∙ r

@@ -1,4 +1,4 @@
-use Rattle.std.proofs.Common.{◌≡◌, ℕ, ◌+◌, ◌*◌, ◌/◌, ◌^◌, ◌<◌, ◌≤◌, List, length, get_or, set, sym, refl, ap, ◌∙◌, subst, arith}
+use Rattle.std.proofs.Common.{◌≡◌, ℕ, ◌+◌, ◌*◌, ◌<◌, List, get_or, sym, ap, ◌∙◌, subst, arith}
 use Rattle.gather.specs.Bits.{bit_of, sum_to}
 use Rattle.levels.specs.Planes.{Outside, bits_from}
 use Rattle.levels.proofs.Frames.{outside_self, outside_set, run_more, sum_to_more, bits_lt}
@@ -8,8 +8,8 @@ use Rattle.levels.proofs.planes.tally.Goals as goal
 pub loop-i-init : goal.loop-i-init
 loop-i-init c = (sym (sum_none (bits_from c.args.ws.now c.args.a)), λ k h. absurd (omega arith), outside_self _ _ c.args.ws.now)
 
-pub count-word-sum-requires : goal.count-word-sum-requires
-count-word-sum-requires c =
+pub count_word-sum-requires : goal.count_word-sum-requires
+count_word-sum-requires c =
     let l = sum_bound (bits_from c.args.ws.now c.args.a) (bits_lt c.args.ws.now c.args.a) (64 * c.loop-i.i) in
     let e = c.loop-i.invariant.0 in
     (omega arith, (omega arith, omega arith))
@@ -21,8 +21,8 @@ loop-i-preserved c =
     let b = c.args.b in
     let i = c.loop-i.i in
     let w : get_or c.loop-i.ws (a + i) 0 ≡ get_or ws (a + i) 0 = c.loop-i.invariant.2.0 (a + i) (omega arith) in
-    let n = c.count-word-sum.ensures.value ∙ ap (λ x. c.loop-i.sum + sum_to (bit_of x) 64) w in
-    let f = c.count-word-sum.ensures.after in
+    let n = c.count_word-sum.ensures.value ∙ ap (λ x. c.loop-i.sum + sum_to (bit_of x) 64) w in
+    let f = c.count_word-sum.ensures.after in
     let m = sum_to_more ws a i in
     let e = c.loop-i.invariant.0 in (
       omega arith,

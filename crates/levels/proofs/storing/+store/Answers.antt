@@ -1,4 +1,4 @@
-use Rattle.std.proofs.Common.{◌≡◌, ℕ, ◌+◌, ◌-◌, ◌*◌, ◌%◌, ◌^◌, ◌<◌, ◌≤◌, get_or, sym, refl, ◌∙◌, subst, arith}
+use Rattle.std.proofs.Common.{◌≡◌, ◌+◌, ◌*◌, ◌%◌, ◌^◌, get_or, sym, refl, ◌∙◌, subst, arith}
 use Rattle.levels.specs.Spans.{value_at}
 use Rattle.levels.proofs.Ends.{ends_more, room_for}
 use Rattle.levels.proofs.Frames.{outside_self}
@@ -6,23 +6,23 @@ use Rattle.levels.proofs.Puts.{put_here, put_kept, put_others, put_outside}
 use Rattle.levels.proofs.Values.{value_none}
 use Rattle.levels.proofs.storing.+store.Goals as goal
 
-pub overflow-add-at : goal.overflow-add-at
-overflow-add-at t c = omega (arith, room_for c.args.b c.args.t c.args.at c.if-t-gt0.true)
+pub overflow_add-at : goal.overflow_add-at
+overflow_add-at t c = omega (arith, room_for c.args.b c.args.t c.args.at c.if-t-gt0.true)
 
-pub overflow-add-at-then-t-gt0 : goal.overflow-add-at-then-t-gt0
-overflow-add-at-then-t-gt0 t c = omega (arith, room_for c.args.b c.args.t c.args.at c.if-t-gt0.true)
+pub overflow_add-at-then-t-gt0 : goal.overflow_add-at-then-t-gt0
+overflow_add-at-then-t-gt0 t c = omega (arith, room_for c.args.b c.args.t c.args.at c.if-t-gt0.true)
 
-pub or-word-requires : goal.or-word-requires
-or-word-requires t c = omega (arith, room_for c.args.b c.args.t c.args.at c.if-t-gt0.true)
+pub or_word-requires : goal.or_word-requires
+or_word-requires t c = omega (arith, room_for c.args.b c.args.t c.args.at c.if-t-gt0.true)
 
-pub overflow-mul-b : goal.overflow-mul-b
-overflow-mul-b t c = omega (arith, room_for c.args.b c.args.t c.args.at c.if-t-gt0.true)
+pub overflow_mul-b : goal.overflow_mul-b
+overflow_mul-b t c = omega (arith, room_for c.args.b c.args.t c.args.at c.if-t-gt0.true)
 
-pub overflow-add-b : goal.overflow-add-b
-overflow-add-b t c = omega (arith, room_for c.args.b c.args.t c.args.at c.if-t-gt0.true)
+pub overflow_add-b : goal.overflow_add-b
+overflow_add-b t c = omega (arith, room_for c.args.b c.args.t c.args.at c.if-t-gt0.true)
 
-pub overflow-add-at-then-t-gt0-2 : goal.overflow-add-at-then-t-gt0-2
-overflow-add-at-then-t-gt0-2 t c = omega (arith, room_for c.args.b c.args.t c.args.at c.if-t-gt0.true)
+pub overflow_add-at-then-t-gt0-2 : goal.overflow_add-at-then-t-gt0-2
+overflow_add-at-then-t-gt0-2 t c = omega (arith, room_for c.args.b c.args.t c.args.at c.if-t-gt0.true)
 
 pub store-requires : goal.store-requires
 store-requires t c =
@@ -32,13 +32,13 @@ store-requires t c =
 pub returns-then-t-gt0 : goal.returns-then-t-gt0
 returns-then-t-gt0 t c =
     let was = c.args.ws.now in
-    let mid = c.or-word.new.ws in
+    let mid = c.or_word.new.ws in
     let is = c.store.new.ws in
     record {
-      here = λ k m z. put_here was mid is c.args.numbers.now c.args.at c.args.b c.args.t c.args.word c.column-of-bits-bits.result c.if-t-gt0.true (omega arith) c.column-of-bits-bits.ensures c.or-word.ensures.bits c.or-word.ensures.words c.store.ensures.outside k m z (c.store.ensures.here k m);
-      kept = λ k m z. put_kept was mid is c.args.numbers.now c.args.at c.args.b c.args.t c.args.word c.column-of-bits-bits.result c.if-t-gt0.true (omega arith) c.column-of-bits-bits.ensures c.or-word.ensures.bits c.or-word.ensures.words c.store.ensures.outside k m z (c.store.ensures.kept k m z);
-      others = λ q n m. put_others was mid is c.args.numbers.now c.args.at c.args.b c.args.t c.args.word c.column-of-bits-bits.result c.if-t-gt0.true (omega arith) c.column-of-bits-bits.ensures c.or-word.ensures.bits c.or-word.ensures.words c.store.ensures.outside q n m (c.store.ensures.others q n m);
-      outside = put_outside was mid is c.args.numbers.now c.args.at c.args.b c.args.t c.args.word c.column-of-bits-bits.result c.if-t-gt0.true (omega arith) c.column-of-bits-bits.ensures c.or-word.ensures.bits c.or-word.ensures.words c.store.ensures.outside;
+      here = λ k m z. put_here was mid is c.args.numbers.now c.args.at c.args.b c.args.t c.args.word c.column_of_bits-bits.result c.if-t-gt0.true (omega arith) c.column_of_bits-bits.ensures c.or_word.ensures.bits c.or_word.ensures.words c.store.ensures.outside k m z (c.store.ensures.here k m);
+      kept = λ k m z. put_kept was mid is c.args.numbers.now c.args.at c.args.b c.args.t c.args.word c.column_of_bits-bits.result c.if-t-gt0.true (omega arith) c.column_of_bits-bits.ensures c.or_word.ensures.bits c.or_word.ensures.words c.store.ensures.outside k m z (c.store.ensures.kept k m z);
+      others = λ q n m. put_others was mid is c.args.numbers.now c.args.at c.args.b c.args.t c.args.word c.column_of_bits-bits.result c.if-t-gt0.true (omega arith) c.column_of_bits-bits.ensures c.or_word.ensures.bits c.or_word.ensures.words c.store.ensures.outside q n m (c.store.ensures.others q n m);
+      outside = put_outside was mid is c.args.numbers.now c.args.at c.args.b c.args.t c.args.word c.column_of_bits-bits.result c.if-t-gt0.true (omega arith) c.column_of_bits-bits.ensures c.or_word.ensures.bits c.or_word.ensures.words c.store.ensures.outside;
     }
 
 pub returns-else-t-gt0 : goal.returns-else-t-gt0

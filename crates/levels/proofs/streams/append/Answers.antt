@@ -10,10 +10,10 @@ returns-then-k-end c =
     let v = c.args.v in
     record {
       bits = λ d h.
-          c.or-word-then-k-end.ensures.bits d ∙ ap (λ y. max y (within (k / 64 + 1) (v / 2 / 2 ^ (63 - k % 64)) d)) (c.or-word.ensures.bits d)
+          c.or_word-then-k-end.ensures.bits d ∙ ap (λ y. max y (within (k / 64 + 1) (v / 2 / 2 ^ (63 - k % 64)) d)) (c.or_word.ensures.bits d)
           ∙ two_words k v d (bit_at c.args.ws.now d) c.ranges.v.fits;
-      before = λ j h. c.or-word-then-k-end.ensures.words j (λ e. omega arith) ∙ c.or-word.ensures.words j (λ e. omega arith);
-      after = λ j h. c.or-word-then-k-end.ensures.words j (λ e. omega arith) ∙ c.or-word.ensures.words j (λ e. omega arith);
+      before = λ j h. c.or_word-then-k-end.ensures.words j (λ e. omega arith) ∙ c.or_word.ensures.words j (λ e. omega arith);
+      after = λ j h. c.or_word-then-k-end.ensures.words j (λ e. omega arith) ∙ c.or_word.ensures.words j (λ e. omega arith);
     }
 
 pub returns-else-k-end : goal.returns-else-k-end
@@ -21,7 +21,7 @@ returns-else-k-end c =
     let k = c.args.k in
     let v = c.args.v in
     record {
-      bits = λ d h. c.or-word.ensures.bits d ∙ one_word k v d (bit_at c.args.ws.now d) c.args.end c.ranges.v.fits (omega arith) h;
-      before = λ j h. c.or-word.ensures.words j (λ e. omega arith);
-      after = λ j h. c.or-word.ensures.words j (λ e. omega arith);
+      bits = λ d h. c.or_word.ensures.bits d ∙ one_word k v d (bit_at c.args.ws.now d) c.args.end c.ranges.v.fits (omega arith) h;
+      before = λ j h. c.or_word.ensures.words j (λ e. omega arith);
+      after = λ j h. c.or_word.ensures.words j (λ e. omega arith);
     }

@@ -1,4 +1,4 @@
-use Rattle.std.proofs.Common.{◌≡◌, ℕ, ◌+◌, ◌<◌, ◌≤◌, get_or, set, sym, ap, ◌∙◌, subst, arith}
+use Rattle.std.proofs.Common.{◌+◌, get_or, set, sym, ap, ◌∙◌, subst, arith}
 use Rattle.levels.specs.Planes.{Outside}
 use Rattle.levels.proofs.Frames.{outside_set, run_more}
 use Rattle.pattern.specs.Sparsity.{entries_between, row_count}
@@ -6,8 +6,8 @@ use Rattle.pattern.proofs.Spans.{entries_few}
 use Rattle.table.proofs.Runs.{entries_next}
 use Rattle.table.proofs.filling.write_starts.Goals as goal
 
-pub overflow-add-start : goal.overflow-add-start
-overflow-add-start g c =
+pub overflow_add-start : goal.overflow_add-start
+overflow_add-start g c =
     let s = g.P.Pattern.sparsity c.args.pattern.now in
     let m = entries_next s c.loop-row.row (omega arith) in
     let f = entries_few s (g.met.P.Pattern.lawful c.args.pattern.now) 0 (c.loop-row.row + 1) in
@@ -19,7 +19,7 @@ loop-row-preserved g c =
     let m = entries_next s c.loop-row.row (omega arith) in
     let i = c.loop-row.invariant in
     let ws = c.loop-row.memory in
-    let e = c.put-start.ensures ∙ ap (λ x. set ws (3 + c.loop-row.row) x) i.0 in (
+    let e = c.put_start.ensures ∙ ap (λ x. set ws (3 + c.loop-row.row) x) i.0 in (
       omega (arith, i.0),
       λ k h. ap (λ x. get_or x (3 + k) 0) e ∙ run_more (λ j. entries_between s 0 j) ws 3 c.loop-row.row (omega arith) i.1 k h,
       subst (λ x. Outside 3 (4 + row_count s) c.args.memory.now x) (sym e)

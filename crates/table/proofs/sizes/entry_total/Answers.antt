@@ -7,6 +7,6 @@ pub returns : goal.returns
 returns g c =
     let s = g.P.Pattern.sparsity c.args.pattern.now in
     record {
-      value = c.entries-between.ensures ∙ ap (λ x. entries_between s 0 x) c.row-count.ensures;
-      few = omega (arith, entries_few s (g.met.P.Pattern.lawful c.args.pattern.now) 0 c.row-count.result, c.entries-between.ensures);
+      value = c.entries_between.ensures ∙ ap (λ x. entries_between s 0 x) c.row_count.ensures;
+      few = omega (arith, entries_few s (g.met.P.Pattern.lawful c.args.pattern.now) 0 c.row_count.result, c.entries_between.ensures);
     }

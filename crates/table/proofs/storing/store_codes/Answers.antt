@@ -1,4 +1,4 @@
-use Rattle.std.proofs.Common.{◌≡◌, ◌%◌, ◌^◌, sym, ap, ◌∙◌, arith}
+use Rattle.std.proofs.Common.{◌%◌, ◌^◌, sym, ap, ◌∙◌, arith}
 use native.Mathlib.Nat.{zero-mod}
 use Rattle.levels.proofs.Frames.{outside_self}
 use Rattle.table.proofs.Stored.{stored_end, stored_start}

@@ -1,4 +1,4 @@
-use Rattle.std.proofs.Common.{◌+◌, ◌-◌, ◌≤◌}
+use Rattle.std.proofs.Common.{◌-◌}
 use Rattle.levels.specs.Layouts.{end_of}
 use Rattle.levels.specs.Planes.{Outside}
 use Rattle.table.specs.Stores.{Stored}

@@ -1,10 +1,9 @@
-use Rattle.std.proofs.Common.{◌≡◌, ℕ, ◌+◌, ◌*◌, ◌%◌, ◌^◌, ◌<◌, ◌≤◌, cond, ◌⊎◌, length, get_or, replicate, sym, refl, ap, ◌∙◌, subst, inl, inr, ⊎_elim, arith}
+use Rattle.std.proofs.Common.{◌≡◌, ℕ, ◌+◌, ◌*◌, ◌%◌, ◌^◌, ◌<◌, ◌≤◌, cond, ◌⊎◌, get_or, replicate, ap, ◌∙◌, subst, inl, inr, ⊎_elim, arith}
 use Rattle.std.proofs.lemmas.List.{get_or-replicate, length-replicate}
 use Rattle.std.proofs.lemmas.Bool.{cases_lt}
 use Rattle.levels.specs.Layouts.{end_of}
 use Rattle.levels.proofs.Frames.{outside_self, outside_then}
 use Rattle.table.specs.Codes.{codes}
-use Rattle.table.specs.Stores.{Stored}
 use Rattle.table.specs.Walks.{Batched, position}
 use Rattle.table.specs.Words.{total_entries}
 use Rattle.table.proofs.Batches.{batched_at}
@@ -25,17 +24,17 @@ loop-word-init g c =
       outside_self _ _ c.args.memory.now,
     )
 
-pub next-batch-batch-requires : goal.next-batch-batch-requires
-next-batch-batch-requires g c =
+pub next_batch-batch-requires : goal.next_batch-batch-requires
+next_batch-batch-requires g c =
     let i = c.loop-word.invariant in
     record { stands = i.0; knows = i.2; count = (omega arith, omega (arith, i.1, c.requires.total)) }
 
-pub put-batch-requires : goal.put-batch-requires
-put-batch-requires g c =
+pub put_batch-requires : goal.put_batch-requires
+put_batch-requires g c =
     let s = g.P.Pattern.sparsity c.args.pattern.now in
     record {
       reaches = (omega (arith, c.requires.reaches, c.loop-word.auto.memory), omega (arith, c.requires.laid.worded, c.requires.total));
-      zero = λ k h n. (c.next-batch-batch.ensures.batch k h).1 ∙ ap (λ t. cond t (get_or (codes s) (position s c.loop-word.cursor + k) 0) 0) n;
+      zero = λ k h n. (c.next_batch-batch.ensures.batch k h).1 ∙ ap (λ t. cond t (get_or (codes s) (position s c.loop-word.cursor + k) 0) 0) n;
     }
 
 pub loop-word-preserved : goal.loop-word-preserved
@@ -44,19 +43,19 @@ loop-word-preserved g c =
     let i = c.loop-word.invariant in
     let l = c.args.layout.now in
     let word = c.loop-word.word in
-    let size = c.batch-size-size.result in
-    let p = c.put-batch.ensures in
+    let size = c.batch_size-size.result in
+    let p = c.put_batch.ensures in
     let at : position s c.loop-word.cursor ≡ 64 * word = i.1 ∙ omega arith in
-    let b : Batched s c.args.first 262144 (64 * word) size c.next-batch-batch.result =
-    batched_at s c.args.first _ 262144 _ (64 * word) size c.next-batch-batch.result i.3 at c.next-batch-batch.ensures.batch in
+    let b : Batched s c.args.first 262144 (64 * word) size c.next_batch-batch.result =
+    batched_at s c.args.first _ 262144 _ (64 * word) size c.next_batch-batch.result i.3 at c.next_batch-batch.ensures.batch in
     let all : (total_entries s ≤ 64 * word + size) ⊎ (size ≡ 64) =
     ⊎_elim (λ (h : size < 64). inl (omega (arith, c.requires.total))) (λ (h : 64 ≤ size). inr (omega arith)) (cases_lt size 64) in (
-      c.next-batch-batch.ensures.stands,
-      omega (arith, c.next-batch-batch.ensures.moved, at),
-      c.next-batch-batch.ensures.knows,
+      c.next_batch-batch.ensures.stands,
+      omega (arith, c.next_batch-batch.ensures.moved, at),
+      c.next_batch-batch.ensures.knows,
       omega (arith, i.3),
-      stored_more s c.args.first 262144 l c.loop-word.memory c.put-batch.new.memory word size c.next-batch-batch.result all b p.here p.kept p.others i.4,
-      outside_then l.start (end_of l) c.args.memory.now c.loop-word.memory c.put-batch.new.memory i.5 p.outside,
+      stored_more s c.args.first 262144 l c.loop-word.memory c.put_batch.new.memory word size c.next_batch-batch.result all b p.here p.kept p.others i.4,
+      outside_then l.start (end_of l) c.args.memory.now c.loop-word.memory c.put_batch.new.memory i.5 p.outside,
     )
 
 pub returns : goal.returns

@@ -5,5 +5,5 @@ use Rattle.table.proofs.telling.entries_told.Goals as goal
 pub bounds-words-2 : goal.bounds-words-2
 bounds-words-2 c = omega (arith, some_front c.args.words.now c.requires)
 
-pub overflow-cast-result : goal.overflow-cast-result
-overflow-cast-result c = omega (arith, some_entries c.args.words.now c.requires)
+pub overflow_cast-result : goal.overflow_cast-result
+overflow_cast-result c = omega (arith, some_entries c.args.words.now c.requires)

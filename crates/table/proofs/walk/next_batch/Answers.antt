@@ -1,6 +1,6 @@
-use Rattle.std.proofs.Common.{◌≡◌, ◌+◌, length, set, is_some, sym, ap, ◌∙◌, subst, arith}
+use Rattle.std.proofs.Common.{◌≡◌, ◌+◌, length, set, is_some, ap, ◌∙◌, subst, arith}
 use Rattle.std.proofs.lemmas.List.{length-set}
-use Rattle.table.specs.Walks.{Batched, Knows, or_zero, position, shown}
+use Rattle.table.specs.Walks.{Batched, or_zero, position, shown}
 use Rattle.table.proofs.Batches.{batched_more, batched_none}
 use Rattle.table.proofs.walk.next_batch.Goals as goal
 
@@ -16,14 +16,14 @@ loop-place-init g c =
       ap length e.1,
     )
 
-pub skip-empty-rows-requires : goal.skip-empty-rows-requires
-skip-empty-rows-requires g c = record { stands = c.loop-place.invariant.0; more = omega (arith, c.loop-place.invariant.1, c.requires.count.1) }
+pub skip_empty_rows-requires : goal.skip_empty_rows-requires
+skip_empty_rows-requires g c = record { stands = c.loop-place.invariant.0; more = omega (arith, c.loop-place.invariant.1, c.requires.count.1) }
 
-pub next-code-found-requires : goal.next-code-found-requires
-next-code-found-requires g c = record {
-  stands = c.skip-empty-rows.ensures.stands;
-  left = c.skip-empty-rows.ensures.left;
-  knows = c.skip-empty-rows.ensures.knows c.args.first c.loop-place.window c.loop-place.invariant.2;
+pub next_code-found-requires : goal.next_code-found-requires
+next_code-found-requires g c = record {
+  stands = c.skip_empty_rows.ensures.stands;
+  left = c.skip_empty_rows.ensures.left;
+  knows = c.skip_empty_rows.ensures.knows c.args.first c.loop-place.window c.loop-place.invariant.2;
 }
 
 pub loop-place-preserved : goal.loop-place-preserved
@@ -35,16 +35,16 @@ loop-place-preserved g c =
     let was = c.loop-place.batch in
     let is = c.note.new.self in
     let k = c.loop-place.place in
-    let at : position s c.skip-empty-rows.new.cursor ≡ q + k = c.skip-empty-rows.ensures.same ∙ i.1 in
-    let v : c.next-code-found.result ≡ shown s c.args.first w (q + k) =
-    c.next-code-found.ensures.value
-    ∙ ap (λ x. shown s c.args.first x (position s c.skip-empty-rows.new.cursor)) c.loop-place.auto.window
+    let at : position s c.skip_empty_rows.new.cursor ≡ q + k = c.skip_empty_rows.ensures.same ∙ i.1 in
+    let v : c.next_code-found.result ≡ shown s c.args.first w (q + k) =
+    c.next_code-found.ensures.value
+    ∙ ap (λ x. shown s c.args.first x (position s c.skip_empty_rows.new.cursor)) c.loop-place.auto.window
     ∙ ap (λ x. shown s c.args.first w x) at in
     let ei = c.note.ensures.inside ∙ ap (λ x. set was.inside k (is_some x)) v in
     let ec = c.note.ensures.codes ∙ ap (λ x. set was.codes k (or_zero x)) v in (
-      c.next-code-found.ensures.stands,
-      omega (arith, c.next-code-found.ensures.moved, at),
-      c.next-code-found.ensures.knows,
+      c.next_code-found.ensures.stands,
+      omega (arith, c.next_code-found.ensures.moved, at),
+      c.next_code-found.ensures.knows,
       batched_more s c.args.first w q was is k (omega arith) i.4 i.5 ei ec i.3,
       ap length ei ∙ length-set was.inside k (is_some (shown s c.args.first w (q + k))) ∙ i.4,
       ap length ec ∙ length-set was.codes k (or_zero (shown s c.args.first w (q + k))) ∙ i.5,

@@ -14,7 +14,7 @@ returns-in-Some g c =
     let d = c.in-Some.place in
     let t = c.in-Some.ensures in
     let w : c.replace.new.window ≡ set c.args.window.now d (was.row + 1) =
-    c.replace.ensures.after ∙ ap (λ v. set c.args.window.now d v) c.code-of.ensures in
+    c.replace.ensures.after ∙ ap (λ v. set c.args.window.now d v) c.code_of.ensures in
     record {
       stands = stands_more s lawful was is c.requires.stands c.requires.left refl refl refl x c.column-column.ensures;
       moved = position_more s lawful was is c.requires.stands c.requires.left refl refl refl x c.column-column.ensures;

@@ -1,4 +1,4 @@
-use Rattle.std.proofs.Common.{◌≡◌, ◌+◌, ◌-◌, ◌*◌, ◌/◌, ◌≤◌, sym, ◌∙◌, subst, arith}
+use Rattle.std.proofs.Common.{◌≡◌, ◌+◌, ◌-◌, ◌/◌, ◌≤◌, subst, arith}
 use Rattle.levels.specs.Layouts.{end_of}
 use Rattle.levels.specs.Planes.{Outside}
 use Rattle.levels.proofs.Ends.{ends_le}
