@@ -1,4 +1,6 @@
 pub mod Works
 pub mod Columns
 pub mod Meanings
+pub mod Told
+pub mod Telling
 pub mod Growth

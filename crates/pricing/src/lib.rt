@@ -1,6 +1,8 @@
 //! Costs over patterns.
 #![tactic(auto)]
 
+mod counted;
+mod counted_answers;
 mod footprint;
 mod footprint_answers;
 mod nonlocal;
@@ -11,6 +13,7 @@ mod weights;
 mod work;
 mod work_answers;
 
+pub use counted::Counted;
 pub use footprint::Footprint;
 pub use nonlocal::Nonlocal;
 pub use scanned::Scanned;

@@ -1,14 +1,15 @@
 -- What a counting table tells is what a scan finds, and keeps the law.
-use Rattle.std.specs.Prelude.{◌≡◌, ℕ, ◌+◌, ◌-◌, ◌*◌, ◌≤◌, List}
-use Rattle.std.proofs.Common.{sym, ap, ap₂, ◌∙◌, arith}
+use Rattle.std.specs.Prelude.{ℕ, ◌+◌, ◌-◌, ◌*◌, List}
+use Rattle.std.proofs.Common.{ap₂, arith}
 use Rattle.std.proofs.Math.Logic.{∥∥₁_elim}
 use Rattle.std.proofs.Math.Bridge.{le_prop}
-use Rattle.cost.specs.Price.{Lawful, SameFigures}
+use Rattle.cost.specs.Price.{Block, Lawful}
 use Rattle.pattern.specs.Sparsity.{Lawful as LawfulRows, Sparsity}
 use Rattle.table.specs.Told.{SomeTable}
 use Rattle.table.specs.Words.{IsTable}
 use Rattle.table.proofs.Told.{distinct-told, entries_within, rows_told, some_rows}
-use Rattle.pricing.specs.Columns.{scanned_price, told_price}
+use Rattle.pricing.specs.Columns.{scanned_price}
+use Rattle.pricing.specs.Told.{SameFigures, told_price}
 use Rattle.pricing.specs.Works.{Weight}
 use Rattle.pricing.specs.Growth.{scanned_lawful}
 
@@ -31,13 +32,13 @@ module _ (R E Q : ℕ) (ws : List ℕ) where
           ∥∥₁_elim table le_prop (λ t.
           let same = told_same t.0 t.1.0 t.1.1 in
           let rows = same.rows in
-          let block' = (block.0, block.1, omega arith) in
+          let block' : Block (scanned_price R E Q t.0) k a b = (block.0, block.1, omega arith) in
           omega (arith, same.figures k a b block', (lawful_of t.0 t.1.0).small k a b block'));
       grows = λ k a b a' b' block other inside.
           ∥∥₁_elim table le_prop (λ t.
           let same = told_same t.0 t.1.0 t.1.1 in
           let rows = same.rows in
-          let block' = (block.0, block.1, omega arith) in
-          let other' = (other.0, other.1, omega arith) in
+          let block' : Block (scanned_price R E Q t.0) k a b = (block.0, block.1, omega arith) in
+          let other' : Block (scanned_price R E Q t.0) k a' b' = (other.0, other.1, omega arith) in
           omega (arith, same.figures k a b block', same.figures k a' b' other', (lawful_of t.0 t.1.0).grows k a b a' b' block' other' inside));
     }

@@ -1,4 +1,9 @@
--- Unfinished: what the counted cost means, and when two costs have the same figures.
+-- The counted cost: what the words of a counting table tell of a pattern, priced.
+use Rattle.std.specs.Prelude.{◌≡◌, ℕ, ◌+◌, ◌-◌, ◌*◌, List}
+use Rattle.cost.specs.Price.{Block, Price}
+use Rattle.table.specs.Openings.{words_of}
+use Rattle.table.specs.Told.{told_distinct, told_rows, told_start}
+use Rattle.pricing.specs.declared.counted.Counted.{Counted}
 
 -- as many rows, and equal figures for every block
 pub record SameFigures (p q : Price) : Type 0 where
