@@ -28,3 +28,8 @@ pub record Lawful (p : Price) : Type 0 where
 -- the figure that a question at any a and b is answered with: first b is clipped to the rows, then a to b
 abbrev pub asked : Price → ℕ → ℕ → ℕ → ℕ
 asked p k a b = p.figure k (min a (min b p.rows)) (min b p.rows)
+
+-- as many rows, and equal figures
+pub record SameFigures (p q : Price) : Type 0 where
+  pub rows : q.rows ≡ p.rows
+  pub figures : (k a b : ℕ) → Block p k a b → q.figure k a b ≡ p.figure k a b

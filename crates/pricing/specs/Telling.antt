@@ -3,13 +3,13 @@ use Rattle.std.specs.Prelude.{ℕ, ◌+◌, ◌-◌, ◌*◌, List}
 use Rattle.std.proofs.Common.{ap₂, arith}
 use Rattle.std.proofs.Math.Logic.{∥∥₁_elim}
 use Rattle.std.proofs.Math.Bridge.{le_prop}
-use Rattle.cost.specs.Price.{Block, Lawful}
+use Rattle.cost.specs.Price.{Block, Lawful, SameFigures}
 use Rattle.pattern.specs.Sparsity.{Lawful as LawfulRows, Sparsity}
 use Rattle.table.specs.Told.{SomeTable}
 use Rattle.table.specs.Words.{IsTable}
 use Rattle.table.proofs.Told.{distinct-told, entries_within, rows_told, some_rows}
 use Rattle.pricing.specs.Columns.{scanned_price}
-use Rattle.pricing.specs.Told.{SameFigures, told_price}
+use Rattle.pricing.specs.Told.{told_price}
 use Rattle.pricing.specs.Works.{Weight}
 use Rattle.pricing.specs.Growth.{scanned_lawful}
 

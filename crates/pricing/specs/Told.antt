@@ -1,14 +1,9 @@
 -- The counted cost: what the words of a counting table tell of a pattern, priced.
 use Rattle.std.specs.Prelude.{◌≡◌, ℕ, ◌+◌, ◌-◌, ◌*◌, List}
-use Rattle.cost.specs.Price.{Block, Price}
+use Rattle.cost.specs.Price.{Price}
 use Rattle.table.specs.Openings.{words_of}
 use Rattle.table.specs.Told.{told_distinct, told_rows, told_start}
 use Rattle.pricing.specs.declared.counted.Counted.{Counted}
-
--- as many rows, and equal figures for every block
-pub record SameFigures (p q : Price) : Type 0 where
-  pub rows : q.rows ≡ p.rows
-  pub figures : (k a b : ℕ) → Block p k a b → q.figure k a b ≡ p.figure k a b
 
 -- counted: the same as scanned, as the words of a counting table tell it
 abbrev pub told_price : ℕ → ℕ → ℕ → List ℕ → Price

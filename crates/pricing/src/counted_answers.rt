@@ -1,7 +1,8 @@
 ghost use Rattle.pattern.specs.Sparsity.{Lawful, Sparsity};
 ghost use Rattle.pricing.specs.Columns.{scanned_price};
 ghost use Rattle.pricing.specs.Meanings.{Fit};
-ghost use Rattle.pricing.specs.Told.{SameFigures, counted_of};
+ghost use Rattle.cost.specs.Price.{SameFigures};
+ghost use Rattle.pricing.specs.Told.{counted_of};
 ghost use Rattle.refusal.specs.declared.Refusal.TheVariants.{Price as OutOfRange};
 ghost use Rattle.std.specs.Prelude.{◌≡◌, Ok, Err};
 ghost use Rattle.table.specs.Openings.{words_of};

@@ -7,12 +7,12 @@ use Rattle.search.specs.declared.report.State.TheVariants.{Open, Settled, Missin
 use Rattle.search.specs.declared.report.Report.{Report}
 use Rattle.search.specs.declared.call.Call.{Call}
 use Rattle.search.specs.declared.call.Call.TheVariants.{Advance, Try, Take, Tell}
-use Rattle.cost.specs.Price.{Price, Lawful}
+use Rattle.cost.specs.Price.{Price, Lawful, SameFigures}
 use Rattle.search.specs.Digits.{digits}
 use Rattle.search.specs.Cuts.{Cut, cost_to, cost_of, Latest}
 use Rattle.search.specs.Play.{View, start, tried, advanced, advance_ok, try_makes, step, plays, play}
 use Rattle.search.specs.Reports.{state_of, report_of}
-use Rattle.search.specs.Law.{asked_for, SameFigures, NoCut, standing, Cheapest, Law, Agree}
+use Rattle.search.specs.Law.{asked_for, NoCut, standing, Cheapest, Law, Agree}
 use Rattle.search.proofs.Widths.{below_digits, digits_least}
 use Rattle.search.proofs.Greedy.{rise}
 use Rattle.search.proofs.Sounds.{Sound, sound_start, sound_tried, tried_advances, advanced_ran, advanced_done}

@@ -1,6 +1,6 @@
 -- What holds at the start and after each call, of what tell answers and of what take writes to K + 1 places.
 use Rattle.std.specs.Prelude.{◌≡◌, ℕ, ◌+◌, ◌*◌, ◌^◌, ◌<◌, ◌≤◌, cond, List, [], ◌∷◌, Some, None, Option, ◌≢◌}
-use Rattle.cost.specs.Price.{Price, Block}
+use Rattle.cost.specs.Price.{Price, SameFigures}
 use Rattle.search.specs.declared.report.State.TheVariants.{Open, Settled, Missing}
 use Rattle.search.specs.declared.report.Report.{Report}
 use Rattle.search.specs.declared.call.Call.{Call}
@@ -45,11 +45,6 @@ pub record Law (p : Price) (K C : ℕ) (calls : List Call) (r : Report) (cut : O
   pub open_while : r.state ≡ Open → (d : ℕ) → C + 1 < 2 ^ d → asked_for calls < d
   -- no more questions than trials times blocks times the binary digits of the rows plus 1
   pub questions : (d : ℕ) → p.rows + 1 < 2 ^ d → r.questions ≤ (r.advance_trials + r.try_trials) * (K * d)
-
--- as many rows, and equal figures
-pub record SameFigures (p q : Price) : Type 0 where
-  pub rows : q.rows ≡ p.rows
-  pub figures : (k a b : ℕ) → Block p k a b → q.figure k a b ≡ p.figure k a b
 
 -- two runs that settle over equal figures have one cut and one figure
 abbrev pub Agree : Price → Price → Report → Report → Option (List ℕ) → Option (List ℕ) → Type 0
