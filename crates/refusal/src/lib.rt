@@ -9,22 +9,22 @@ use std::fmt;
 /// Why a call is declined. Of several reasons the one with the smallest number is given.
 #[derive(Clone, Copy, PartialEq, Eq, Debug)]
 pub enum Refusal {
-    Torn,
-    Digit,
-    Frame,
-    Turn,
-    Shape,
-    Column,
-    Price,
-    Owners,
-    Blocks,
-    Ceiling,
-    Table,
-    Count,
-    NoCut,
-    Short,
-    Unequal,
-    Capacity,
+    Torn = 1,
+    Digit = 2,
+    Frame = 3,
+    Turn = 4,
+    Shape = 5,
+    Column = 6,
+    Price = 7,
+    Owners = 8,
+    Blocks = 9,
+    Ceiling = 10,
+    Table = 11,
+    Count = 12,
+    NoCut = 13,
+    Short = 14,
+    Unequal = 15,
+    Capacity = 16,
 }
 
 impl Refusal {
@@ -32,28 +32,15 @@ impl Refusal {
     pub fn number(self) -> u8
         ensures { result ≡ number_of self }
     {
-        match self {
-            Refusal::Torn => 1,
-            Refusal::Digit => 2,
-            Refusal::Frame => 3,
-            Refusal::Turn => 4,
-            Refusal::Shape => 5,
-            Refusal::Column => 6,
-            Refusal::Price => 7,
-            Refusal::Owners => 8,
-            Refusal::Blocks => 9,
-            Refusal::Ceiling => 10,
-            Refusal::Table => 11,
-            Refusal::Count => 12,
-            Refusal::NoCut => 13,
-            Refusal::Short => 14,
-            Refusal::Unequal => 15,
-            Refusal::Capacity => 16,
-        }
+        self as u8
     }
+}
 
-    fn sentence(self) -> &'static str {
-        match self {
+/// The reason in a sentence.
+// As it is: a derive of such sentences would put one crate of the toolchain more under every crate here.
+impl fmt::Display for Refusal {
+    fn fmt<W: fmt::Write>(&self, f: &mut fmt::Formatter<W>) -> fmt::Result {
+        f.write_str(match self {
             Refusal::Torn => "the line is torn",
             Refusal::Digit => "a byte of the line is no digit",
             Refusal::Frame => "the tag is unknown or the line has the wrong length for it",
@@ -70,14 +57,7 @@ impl Refusal {
             Refusal::Short => "the buffer is too short for the boundaries",
             Refusal::Unequal => "the costs differ in their number of rows",
             Refusal::Capacity => "the matrix is too large for this program",
-        }
-    }
-}
-
-/// The reason in a sentence.
-impl fmt::Display for Refusal {
-    fn fmt<W: fmt::Write>(&self, f: &mut fmt::Formatter<W>) -> fmt::Result {
-        f.write_str(self.sentence())
+        })
     }
 }
 

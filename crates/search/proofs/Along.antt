@@ -1,6 +1,6 @@
 -- A run goes on by one call.
-use Rattle.std.proofs.Common.{◌≡◌, ℕ, zero, suc, ◌+◌, ◌-◌, ◌<◌, true, false, ◌&&◌, ltb, List, [], ◌∷◌, ◌++◌, sym, refl, ap, ◌∙◌, subst, ⊎_elim, arith}
-use Rattle.std.proofs.lemmas.Bool.{cond-true, cond-false, lt-ltb, ltb-false, and_cases, cases_Bool}
+use Rattle.std.proofs.Common.{◌≡◌, ◌⊎◌, ℕ, zero, suc, ◌+◌, ◌-◌, ◌<◌, true, false, ltb, List, [], ◌∷◌, ◌++◌, sym, refl, ap, ◌∙◌, subst, ⊎_elim, arith}
+use Rattle.std.proofs.lemmas.Bool.{cond-true, cond-false, lt-ltb, cases_Bool}
 use Rattle.cost.specs.declared.Cost.{Ghosts}
 use Rattle.cost.specs.Price.{Price}
 use Rattle.search.specs.declared.search.Search.{Search}
@@ -118,14 +118,10 @@ asks_turn p K (suc n) s h o =
     let e : suc n - 1 ≡ n = omega arith in
     ap (λ i. (trial_at p K (halfway s)).questions ++ advance_asks p K i (tried p K (halfway s) true s)) e ∙ sym (cond-true (ltb s.floor s.figure) ((trial_at p K (halfway s)).questions ++ advance_asks p K n (tried p K (halfway s) true s)) [] (lt-ltb s.floor s.figure o))
 
-pub advanced_stop : (p : Price) (K n : ℕ) (s : View) → (ltb 0 n && ltb s.floor s.figure) ≡ false → (advanced p K n s ≡ s) × (advance_asks p K n s ≡ [])
+pub advanced_stop : (p : Price) (K n : ℕ) (s : View) → (n ≡ 0) ⊎ (ltb s.floor s.figure ≡ false) → (advanced p K n s ≡ s) × (advance_asks p K n s ≡ [])
 unfolding advanced advance_asks
 advanced_stop p K zero s h = (refl, refl)
-advanced_stop p K (suc n) s h =
-    ⊎_elim
-    (λ z. absurd (let l = ltb-false 0 (suc n) z in omega arith))
-    (λ z. (cond-false _ _ _ z, cond-false _ _ _ z))
-    (and_cases (ltb 0 (suc n)) (ltb s.floor s.figure) h)
+advanced_stop p K (suc n) s h = ⊎_elim (λ (z : suc n ≡ 0). absurd (omega arith)) (λ z. (cond-false _ _ _ z, cond-false _ _ _ z)) h
 
 -- an advance by i + j is one by i and then one by j
 module _ (p : Price) (K : ℕ) where

@@ -1,5 +1,6 @@
 -- The theorem on every run.
-use Rattle.std.proofs.Common.{◌≡◌, ℕ, zero, suc, ◌+◌, ◌-◌, ◌*◌, ◌^◌, ◌<◌, ◌≤◌, max, Bool, true, false, cond, ◌&&◌, ltb, leb, List, [], ◌∷◌, length, get_or, Some, None, Option, sym, refl, ap, ◌∙◌, subst, ⊎_elim, mul-le-mul_right, mul-le-mul, arith, pow_mono}
+use Rattle.std.proofs.Common.{◌≡◌, ℕ, zero, suc, ◌+◌, ◌-◌, ◌*◌, ◌^◌, ◌<◌, ◌≤◌, max, Bool, true, false, cond, ◌&&◌, ltb, leb, List, [], ◌∷◌, length, get_or, Some, None, sym, refl, ap, ◌∙◌, subst, ⊎_elim, mul-le-mul_right, mul-le-mul, arith, pow_mono}
+use Rattle.std.proofs.lemmas.Option.{cond_some}
 use Rattle.std.proofs.lemmas.Bool.{cases_lt, cases_Bool, cond-true, cond-false, and_parts, lt-ltb, le-ltb, ltb-true, leb-true}
 use Rattle.std.proofs.lemmas.List.{same_lists, get_or_default}
 use Rattle.search.specs.declared.report.State.{State}
@@ -198,23 +199,13 @@ few_trials g t X h l w =
     omega (arith, below_digits X w)))
     (cases_lt t (digits X))
 
-some_is : (a b : List ℕ) → ◌≡◌ {A = Option (List ℕ)} (Some a) (Some b) → a ≡ b
-some_is a b e = cc
-
-not_some : (b : List ℕ) → ◌≡◌ {A = Option (List ℕ)} None (Some b) → ⊥
-not_some b e = let z : ◌≡◌ {A = ℕ} 0 1 = ap (λ x. elim x [ None ↦ 0 | Some y ↦ 1 ]) e in omega arith
-
 three : (x : State) → (x ≡ Open → ⊥) → (x ≡ Missing → ⊥) → x ≡ Settled
 three Open a b = absurd (a refl)
 three Settled a b = refl
 three Missing a b = absurd (b refl)
 
 stands_so : (s : View) (x : List ℕ) → standing s ≡ Some x → (s.stands ≡ true) × (s.cut ≡ x)
-stands_so s x e =
-    ⊎_elim
-    (λ t. (t, some_is s.cut x (sym (cond-true s.stands _ _ t) ∙ e)))
-    (λ f. absurd (not_some x (sym (cond-false s.stands _ _ f) ∙ e)))
-    (cases_Bool s.stands)
+stands_so s x e = cond_some s.stands s.cut x e
 
 module _ (p : Price) (lawful : Lawful p) (K C : ℕ) (small : K ≤ 1024) (cap : C < 2 ^ 60) (calls : List Call) (s : View) (ran : Counted p lawful K C (omega arith) (asked_for calls) s) where
   no_cut : state_of s ≡ Missing → NoCut p K C

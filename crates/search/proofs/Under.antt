@@ -61,9 +61,6 @@ module _ {C : Type 0} {g : Ghosts C} (price : C → Price) (put : C → ℕ → 
     pub last_is : last_answer p K M rest (view_of t) last ≡ last_answer p K M calls (view_of s) None
     pub asks : (z : C) → Trail put t.cost (run_asks p K M rest (view_of t)) z → Trail put s.cost (run_asks p K M calls (view_of s)) z
 
-  pub under_start : Under calls s None
-  under_start = record { kept = kept_same price put s; view = refl; last_is = refl; asks = λ z h. h }
-
   module _ (x : Call) (rest : List Call) (t u : Search C g) (last : Option Answer) (a : Answer) (now : Under (x ∷ rest) t last) (f : Follows price put x t u) (e : a ≡ answer_of (price t.cost) t.blocks t.ceiling x (view_of t)) where
     stepped : view_of u ≡ step p K M x (view_of t)
     stepped = f.view ∙ ap (λ q. step q t.blocks t.ceiling x (view_of t)) now.kept.price_same ∙ ap (λ k. step p k t.ceiling x (view_of t)) now.kept.blocks_same ∙ ap (λ m. step p K m x (view_of t)) now.kept.ceiling_same

@@ -1,5 +1,6 @@
 -- What holds of whole runs.
 use Rattle.std.proofs.Common.{◌≡◌, ℕ, zero, suc, ◌+◌, ◌^◌, ◌<◌, ◌≤◌, Bool, true, false, ◌&&◌, ltb, leb, List, [], ◌∷◌, ◌++◌, length, take, drop, replicate, Some, None, Ok, Err, Option, Result, sym, refl, ap, ◌∙◌, subst, ⊎_elim, arith}
+use Rattle.std.proofs.lemmas.Option.{none-some, same_Some}
 use Rattle.std.proofs.lemmas.Bool.{cases_Bool, cond-true, cond-false, cond_both, true≢false, ltb-true, ltb-false, leb-true, leb-false, le-ltb, and_parts}
 use Rattle.std.proofs.lemmas.List.{take_at, length-append, length-replicate}
 use Rattle.refusal.specs.declared.Refusal.{Refusal}
@@ -23,21 +24,6 @@ use Rattle.search.proofs.Every.{counted_play, law_play, agree_play}
 use Rattle.search.proofs.Along.{plays_more, advance_declined, advance_taken, try_declined, try_taken, take_same, tell_same}
 use Rattle.search.proofs.Tries.{too-high, too-low, known, spent, makes}
 
-report_one : (a b : Report) → ◌≡◌ {A = Option Report} (Some a) (Some b) → a ≡ b
-report_one a b e = cc
-
-report_none : (b : Report) → ◌≡◌ {A = Option Report} None (Some b) → ⊥
-report_none b e = let z : ◌≡◌ {A = ℕ} 0 1 = ap (λ x. elim x [ None ↦ 0 | Some y ↦ 1 ]) e in omega arith
-
-answer_one : (a b : Answer) → ◌≡◌ {A = Option Answer} (Some a) (Some b) → a ≡ b
-answer_one a b e = cc
-
-answer_none : (b : Answer) → ◌≡◌ {A = Option Answer} None (Some b) → ⊥
-answer_none b e = let z : ◌≡◌ {A = ℕ} 0 1 = ap (λ x. elim x [ None ↦ 0 | Some y ↦ 1 ]) e in omega arith
-
-some_no : (b : Refusal) → ◌≡◌ {A = Option Refusal} (Some b) None → ⊥
-some_no b e = let z : ◌≡◌ {A = ℕ} 1 0 = ap (λ x. elim x [ None ↦ 0 | Some y ↦ 1 ]) e in omega arith
-
 -- what one call answers, against where it leads
 module _ (p : Price) (K C : ℕ) (s : View) where
   -- a report in the answer is that of the search after the call, and a declined call leaves the search
@@ -47,14 +33,14 @@ module _ (p : Price) (K C : ℕ) (s : View) where
   fits_advance : (n : ℕ) → Fits (Advanced (advance_answer p K n s)) (step p K C (Advance n) s)
   fits_advance n =
       cond_both (advance_ok n) (Ok (report_of (advanced p K n s))) (Err refusal.Count) (λ a. Fits (Advanced a) (step p K C (Advance n) s))
-      (λ h. (λ r e. sym (report_one (report_of (advanced p K n s)) r e) ∙ ap report_of (advance_taken p K C s n h), λ e. absurd (true≢false (sym e))))
-      (λ h. (λ r e. absurd (report_none r e), λ _. sym (advance_declined p K C s n h)))
+      (λ h. (λ r e. sym (same_Some (report_of (advanced p K n s)) r e) ∙ ap report_of (advance_taken p K C s n h), λ e. absurd (true≢false (sym e))))
+      (λ h. (λ r e. absurd (none-some r e), λ _. sym (advance_declined p K C s n h)))
 
   stays : (c : ℕ) (b : Bool) → try_makes C s c ≡ false → Fits (Tried (Ok (b, report_of s))) (step p K C (Try c) s)
-  stays c b h = (λ r e. sym (report_one (report_of s) r e) ∙ ap report_of (try_declined p K C s c h), λ e. absurd (true≢false (sym e)))
+  stays c b h = (λ r e. sym (same_Some (report_of s) r e) ∙ ap report_of (try_declined p K C s c h), λ e. absurd (true≢false (sym e)))
 
   refuses : (c : ℕ) (x : Refusal) → try_makes C s c ≡ false → Fits (Tried (Err x)) (step p K C (Try c) s)
-  refuses c x h = (λ r e. absurd (report_none r e), λ _. sym (try_declined p K C s c h))
+  refuses c x h = (λ r e. absurd (none-some r e), λ _. sym (try_declined p K C s c h))
 
   fits_try : (c : ℕ) → Fits (Tried (try_answer p K C c s)) (step p K C (Try c) s)
   fits_try c =
@@ -67,14 +53,14 @@ module _ (p : Price) (K C : ℕ) (s : View) where
       (λ h3. cond_both (ltb s.tries 65535) _ _ (λ a. Fits (Tried a) (step p K C (Try c) s))
       (λ h4.
       let yes = makes C c s (ltb-false C c h1) (ltb-false c s.floor h2) (leb-false s.figure c h3) (ltb-true s.tries 65535 h4) in
-      (λ r e. sym (report_one (report_of (tried p K c false s)) r e) ∙ ap report_of (try_taken p K C s c yes), λ e. absurd (true≢false (sym e))))
+      (λ r e. sym (same_Some (report_of (tried p K c false s)) r e) ∙ ap report_of (try_taken p K C s c yes), λ e. absurd (true≢false (sym e))))
       (λ h4. refuses c refusal.Count (spent C c s (ltb-false s.tries 65535 h4))))))
 
   pub fits : (x : Call) → Fits (answer_of p K C x s) (step p K C x s)
   fits (Advance n) = fits_advance n
   fits (Try c) = fits_try c
-  fits (Take n) = (λ r e. absurd (report_none r e), λ _. sym (take_same p K C s n))
-  fits Tell = (λ r e. sym (report_one (report_of s) r e) ∙ ap report_of (tell_same p K C s), λ _. sym (tell_same p K C s))
+  fits (Take n) = (λ r e. absurd (none-some r e), λ _. sym (take_same p K C s n))
+  fits Tell = (λ r e. sym (same_Some (report_of s) r e) ∙ ap report_of (tell_same p K C s), λ _. sym (tell_same p K C s))
 
   idle_same : (x : Call) → idle p K C x s ≡ true → step p K C x s ≡ s
   idle_same (Advance n) h = (fits (Advance n)).1 h
@@ -100,7 +86,7 @@ module _ (p : Price) (K C : ℕ) where
   unfolding last_answer plays
   telling [] s given h = h
   telling (x ∷ xs) s given h =
-      telling xs (step p K C x s) (Some (answer_of p K C x s)) (λ a r e e'. (fits p K C s x).0 r (ap report_in (answer_one (answer_of p K C x s) a e) ∙ e'))
+      telling xs (step p K C x s) (Some (answer_of p K C x s)) (λ a r e e'. (fits p K C s x).0 r (ap report_in (same_Some (answer_of p K C x s) a e) ∙ e'))
 
   busy_plays : (calls : List Call) (s : View) → plays p K C (busy p K C calls s) s ≡ plays p K C calls s
   unfolding busy plays
@@ -236,7 +222,7 @@ module _ (p : Price) (lawful : Lawful p) (K C : ℕ) (few : K ≤ 1024) (cap : C
         counted = omega (arith, plays_asks p K C calls (start C));
         uncalled = λ e. ap (λ xs. last_answer p K C xs (start C) None) e ∙ last_none p K C (start C) None;
         answered = λ part call e. ap (λ xs. last_answer p K C xs (start C) None) (sym e) ∙ last_more p K C part call (start C) None;
-        told = telling p K C calls (start C) None (λ a r e _. absurd (answer_none a e));
+        told = telling p K C calls (start C) None (λ a r e _. absurd (none-some a e));
         declined = λ part call e h. ap (play p K C) (sym e) ∙ plays_more p K C part call (start C) ∙ (fits p K C (play p K C part) call).1 h;
         without = busy_plays p K C calls (start C);
       }
@@ -260,9 +246,9 @@ opens K C e =
     ⊎_elim
     (λ a. ⊎_elim
     (λ b. (leb-true K 1024 (and_parts (leb 1 K) (leb K 1024) a).1, ltb-true C (2 ^ 60) b))
-    (λ b. absurd (some_no refusal.Ceiling (sym (cond-true (leb 1 K && leb K 1024) _ _ a ∙ cond-false (ltb C (2 ^ 60)) _ _ b) ∙ e)))
+    (λ b. absurd (none-some refusal.Ceiling (sym e ∙ cond-true (leb 1 K && leb K 1024) _ _ a ∙ cond-false (ltb C (2 ^ 60)) _ _ b)))
     (cases_Bool (ltb C (2 ^ 60))))
-    (λ a. absurd (some_no refusal.Blocks (sym (cond-false (leb 1 K && leb K 1024) _ _ a) ∙ e)))
+    (λ a. absurd (none-some refusal.Blocks (sym e ∙ cond-false (leb 1 K && leb K 1024) _ _ a)))
     (cases_Bool (leb 1 K && leb K 1024))
 
 -- both runs are played

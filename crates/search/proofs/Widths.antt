@@ -1,7 +1,8 @@
 -- Binary digits and powers.
-use Rattle.std.proofs.Common.{◌≡◌, ℕ, zero, suc, ◌+◌, ◌-◌, ◌*◌, ◌/◌, ◌^◌, ◌<◌, ◌≤◌, eqb, sym, refl, ap, ◌∙◌, subst, ⊎_elim, arith, pow_mono}
+use Rattle.std.proofs.Common.{◌≡◌, ℕ, zero, suc, ◌+◌, ◌-◌, ◌*◌, ◌/◌, ◌^◌, ◌<◌, ◌≤◌, eqb, refl, ap, ◌∙◌, ⊎_elim, arith, pow_mono}
 use native.Mathlib.Nat.{pow-succ'}
-use Rattle.std.proofs.lemmas.Bool.{eqb-true, ne_eqb, cond_both, cond-false, cases_lt}
+use Rattle.std.proofs.lemmas.Bool.{eqb-true, cond_both, cases_lt}
+use Rattle.std.specs.Int.Count.{count_leading_zeros, leading_unique}
 use Rattle.search.specs.Digits.{HasDigits, digits_in, digits}
 
 pub below_digits_in : (f n : ℕ) → n < 2 ^ f → n < 2 ^ digits_in f n
@@ -61,6 +62,21 @@ digits_in_low (suc f) n h w =
     (λ l. omega (arith, digits_in_low f (n / 2) (omega arith) (omega (arith, pow-succ' 2 f))))
     (cases_lt (n / 2) 1))
 
+-- no fewer digits would do, and 0 has none
+pub digits_low : (n : ℕ) → n < 2 ^ 64 → 2 ^ digits n ≤ 2 * n + 1
+unfolding digits
+digits_low n w =
+    ⊎_elim
+    (λ (l : n < 1). let e : 2 ^ digits_in 64 n ≡ 1 = ap (λ d. 2 ^ d) (ap (digits_in 64) (let z : n ≡ 0 = omega arith in z) ∙ none_digits_in 64) in omega arith)
+    (λ l. omega (arith, digits_in_low 64 n (omega arith) w))
+    (cases_lt n 1)
+
+-- the digits are what the leading zeros of 64 leave
+pub digits_leading : (n : ℕ) → n < 2 ^ 64 → 64 - count_leading_zeros 64 n ≡ digits n
+digits_leading n fits =
+    let rest : 64 - digits n ≡ count_leading_zeros 64 n = leading_unique 64 n (64 - digits n) (digits n) (omega (arith, digits_le n)) (below_digits n fits) (digits_low n fits) in
+    omega (arith, digits_le n)
+
 pub has_digits : (n : ℕ) → HasDigits n (digits n)
 unfolding digits
 has_digits n h w =
@@ -86,42 +102,3 @@ digits_least n d h w l =
 -- a row number has at most 20 digits
 pub digits_rows : (n : ℕ) → n ≤ 1000000 → digits (n + 1) ≤ 20
 digits_rows n h = let l : n + 1 < 2 ^ 20 = omega arith in digits_least (n + 1) 20 (omega arith) (omega arith) l
-
--- one digit counted
-pub digit_more : (f n : ℕ) → 0 < n → 0 < f → digits_in f n ≡ digits_in (f - 1) (n / 2) + 1
-unfolding digits_in
-digit_more zero n h l = elim l [ ]
-digit_more (suc f) n h l =
-    let e : suc f - 1 ≡ f = omega arith in
-    cond-false (eqb n 0) 0 (digits_in f (n / 2) + 1) (ne_eqb n 0 (λ z. omega arith)) ∙ ap (λ i. digits_in i (n / 2) + 1) (sym e)
-
-pub no_digit : (f : ℕ) → digits_in f 0 ≡ 0
-no_digit f = none_digits_in f
-
--- the digits of a number, so many of them counted
-pub record Counting (n left count : ℕ) : Type 0 where
-  pub few : count ≤ 64
-  pub below : left < 2 ^ (64 - count)
-  pub rest : digits_in (64 - count) left + count ≡ digits n
-
-pub counting_start : (n : ℕ) → n < 2 ^ 64 → Counting n n 0
-unfolding digits
-counting_start n h = record { few = omega arith; below = h; rest = omega arith }
-
-module _ (n left count : ℕ) (now : Counting n left count) where
-  pub counting_room : 0 < left → count < 64
-  counting_room h = omega (arith, some_digit left (64 - count) h now.below, now.few)
-
-  pub counting_next : 0 < left → Counting n (left / 2) (count + 1)
-  counting_next h =
-      let room : 0 < 64 - count = some_digit left (64 - count) h now.below in
-      let e : 64 - (count + 1) ≡ 64 - count - 1 = omega arith in
-      let pw : 2 ^ (64 - count) ≡ 2 * 2 ^ (64 - count - 1) = pow_more (64 - count) room in
-      record {
-        few = omega arith;
-        below = subst (λ i. left / 2 < 2 ^ i) (sym e) (omega (arith, now.below));
-        rest = ap (λ i. digits_in i (left / 2) + (count + 1)) e ∙ omega (arith, digit_more (64 - count) left h room, now.rest);
-      }
-
-  pub counting_end : left ≡ 0 → count ≡ digits n
-  counting_end h = omega (arith, ap (digits_in (64 - count)) h, no_digit (64 - count), now.rest)

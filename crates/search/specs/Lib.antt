@@ -5,6 +5,7 @@ pub mod Halving
 pub mod Trial
 pub mod Sane
 pub mod States
+pub mod Purposes
 pub mod Play
 pub mod Reports
 pub mod Answers

@@ -1,5 +1,5 @@
 -- What a search holds, and how a call may change it.
-use Rattle.std.specs.Prelude.{◌≡◌, ℕ, ◌+◌, Bool, cond, List, [], ◌∷◌, ◌++◌, take, None, Ok, Err, Result}
+use Rattle.std.specs.Prelude.{◌≡◌, ℕ, ◌+◌, Bool, List, [], ◌∷◌, ◌++◌, take, Some, None, is_some, Ok, Err, Option, Result}
 use Rattle.refusal.specs.declared.Refusal.{Refusal}
 use Rattle.cost.specs.Price.{Price}
 use Rattle.cost.specs.declared.Cost.{Ghosts}
@@ -12,14 +12,19 @@ use Rattle.search.specs.Reports.{report_of}
 use Rattle.search.specs.Answers.{open_refusal}
 use Rattle.search.specs.Law.{Law, standing}
 
+-- the boundaries of a cut into K blocks that stands, at the front of the places that hold it; no boundaries where none does
+abbrev pub boundaries_in : ℕ → Option (List ℕ) → List ℕ
+boundaries_in K (Some places) = take (K + 1) places
+boundaries_in K None = []
+
 module _ {C : Type 0} {g : Ghosts C} where
   -- what a search holds
   abbrev pub view_of : Search C g → View
   view_of s = record {
     floor = s.floor;
     figure = s.figure;
-    stands = s.stands;
-    cut = cond s.stands (take (s.blocks + 1) s.boundaries) [];
+    stands = is_some s.standing;
+    cut = boundaries_in s.blocks s.standing;
     advances = s.advance_trials;
     tries = s.try_trials;
     questions = s.questions;

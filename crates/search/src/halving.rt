@@ -39,6 +39,7 @@ fn one_more(questions: u32) -> u32
 }
 
 /// Puts one question.
+// As it is: that the cost means the same afterwards is said of two moments, here and below, so no type can hold it.
 fn ask<C: Cost>(cost: &mut C, block: u32, start: u32, row: u32) -> u64
     ensures value { result ≡ asked (C.price cost.old) block start row }
     ensures same { C.price cost.new ≡ C.price cost.old }
@@ -49,6 +50,7 @@ fn ask<C: Cost>(cost: &mut C, block: u32, start: u32, row: u32) -> u64
 
 /// The furthest row from low to high at which the block from `start` on is granted at c, its figure, and the number of
 /// questions; where none is granted, low and its figure, which is then above c.
+// As it is: a tuple of row, figure and questions is the form laid down for what a halving gives.
 pub(crate) fn halving<C: Cost>(
     cost: &mut C,
     block: u32,
@@ -71,6 +73,7 @@ pub(crate) fn halving<C: Cost>(
     let mut granted: u64 = 0;
     let mut refused: u64 = 0;
     let mut questions: u32 = 0;
+    // As it is: it halves a range of row numbers, and the library halves slices only.
     while from < past {
         let middle = middle_of(from, past);
         let figure = ask(cost, block, start, middle);

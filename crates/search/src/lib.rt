@@ -5,6 +5,7 @@ pub mod call;
 pub mod digits;
 mod halving;
 pub mod played;
+mod purpose;
 pub mod report;
 pub mod run;
 pub mod search;

@@ -5,9 +5,9 @@ ghost use Rattle.std.specs.Prelude.{◌≡◌};
 /// Where a search stands: open, settled with a cut that costs least, or over with no cut within its ceiling.
 #[derive(Clone, Copy, PartialEq, Eq, Debug)]
 pub enum State {
-    Open,
-    Settled,
-    Missing,
+    Open = 1,
+    Settled = 2,
+    Missing = 3,
 }
 
 impl State {
@@ -15,11 +15,7 @@ impl State {
     pub fn number(self) -> u8
         ensures { result ≡ state_number self }
     {
-        match self {
-            State::Open => 1,
-            State::Settled => 2,
-            State::Missing => 3,
-        }
+        self as u8
     }
 }
 

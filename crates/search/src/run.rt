@@ -29,10 +29,8 @@ fn standing_cut<C: Cost>(search: &mut Search<C>) -> Option<[u32; 1025]>
     ensures cut { result ≡ placed search.old.blocks (view_of search.old) }
 {
     let mut out = [0; 1025];
-    match search.take(&mut out) {
-        Ok(()) => Some(out),
-        Err(_) => None,
-    }
+    search.take(&mut out).ok()?;
+    Some(out)
 }
 
 /// One call of a run.
@@ -40,6 +38,7 @@ fn play_one<C: Cost>(search: &mut Search<C>, call: Call) -> Answer
     ensures follows { Follows C.price C.put call search.old search.new }
     ensures answer { result ≡ answer_of (C.price search.old.cost) search.old.blocks search.old.ceiling call (view_of search.old) }
 {
+    // As it is: calls are data, over whose lists the law of runs is stated.
     match call {
         Call::Advance(n) => Answer::Advanced(search.advance(n)),
         Call::Try(c) => Answer::Tried(search.try_at(c)),
@@ -48,13 +47,39 @@ fn play_one<C: Cost>(search: &mut Search<C>, call: Call) -> Answer
     }
 }
 
+/// A run to be played: over a cost, up to a ceiling, by these calls.
+pub struct Planned<'a, C> {
+    pub cost: C,
+    pub ceiling: u64,
+    pub calls: &'a [Call],
+}
+
+impl<C> Planned<'_, C> {
+    /// The cost of a run that is not played.
+    fn into_cost(self) -> C
+        ensures { result ≡ self.entry.cost }
+    {
+        let Planned {
+            cost,
+            ceiling: _,
+            calls: _,
+        } = self;
+        cost
+    }
+}
+
 /// A run of which the search can be opened: what it comes to, and the cost back.
-fn run_through<C: Cost>(cost: C, blocks: u32, ceiling: u64, calls: &[Call]) -> (Played, C)
-    requires { open_refusal blocks ceiling ≡ None }
-    ensures exact { result.0 ≡ played_of (C.price cost) blocks ceiling calls.now }
-    ensures same { C.price result.1 ≡ C.price cost }
-    ensures puts { Trail C.put cost (run_asks (C.price cost) blocks ceiling calls.now (start ceiling)) result.1 }
+fn run_through<C: Cost>(planned: Planned<C>, blocks: u32) -> (Played, C)
+    requires { open_refusal blocks planned.ceiling ≡ None }
+    ensures exact { result.0 ≡ played_of (C.price planned.entry.cost) blocks planned.entry.ceiling planned.entry.calls.now }
+    ensures same { C.price result.1 ≡ C.price planned.entry.cost }
+    ensures puts { Trail C.put planned.entry.cost (run_asks (C.price planned.entry.cost) blocks planned.entry.ceiling planned.entry.calls.now (start planned.entry.ceiling)) result.1 }
 {
+    let Planned {
+        cost,
+        ceiling,
+        calls,
+    } = planned;
     let mut search = Search::begin(cost, blocks, ceiling);
     let mut last = None;
     for call in calls {
@@ -68,22 +93,18 @@ fn run_through<C: Cost>(cost: C, blocks: u32, ceiling: u64, calls: &[Call]) -> (
 /// Two runs of which the searches can be opened: what they come to, and the costs back.
 fn both_runs<C: Cost, D: Cost>(
     blocks: u32,
-    first: C,
-    first_ceiling: u64,
-    first_calls: &[Call],
-    second: D,
-    second_ceiling: u64,
-    second_calls: &[Call],
+    first: Planned<C>,
+    second: Planned<D>,
 ) -> (Played, Played, C, D)
-    requires first_opens { open_refusal blocks first_ceiling ≡ None }
-    requires second_opens { open_refusal blocks second_ceiling ≡ None }
-    ensures law { BothLaws (C.Cost.price first) (D.Cost.price second) blocks first_ceiling first_calls.now second_ceiling second_calls.now (Ok (result.0, result.1)) }
-    ensures exact { Ok (result.0, result.1) ≡ compared_of (C.Cost.price first) (D.Cost.price second) blocks first_ceiling first_calls.now second_ceiling second_calls.now }
-    ensures first_back { Returned C.Cost.price C.Cost.put blocks first_ceiling first_calls.now first result.2 (Ok (result.0, result.1)) }
-    ensures second_back { Returned D.Cost.price D.Cost.put blocks second_ceiling second_calls.now second result.3 (Ok (result.0, result.1)) }
+    requires first_opens { open_refusal blocks first.ceiling ≡ None }
+    requires second_opens { open_refusal blocks second.ceiling ≡ None }
+    ensures law { BothLaws (C.Cost.price first.entry.cost) (D.Cost.price second.entry.cost) blocks first.entry.ceiling first.entry.calls.now second.entry.ceiling second.entry.calls.now (Ok (result.0, result.1)) }
+    ensures exact { Ok (result.0, result.1) ≡ compared_of (C.Cost.price first.entry.cost) (D.Cost.price second.entry.cost) blocks first.entry.ceiling first.entry.calls.now second.entry.ceiling second.entry.calls.now }
+    ensures first_back { Returned C.Cost.price C.Cost.put blocks first.entry.ceiling first.entry.calls.now first.entry.cost result.2 (Ok (result.0, result.1)) }
+    ensures second_back { Returned D.Cost.price D.Cost.put blocks second.entry.ceiling second.entry.calls.now second.entry.cost result.3 (Ok (result.0, result.1)) }
 {
-    let (one, first) = run_through(first, blocks, first_ceiling, first_calls);
-    let (two, second) = run_through(second, blocks, second_ceiling, second_calls);
+    let (one, first) = run_through(first, blocks);
+    let (two, second) = run_through(second, blocks);
     (one, two, first, second)
 }
 
@@ -91,46 +112,24 @@ fn both_runs<C: Cost, D: Cost>(
 /// a real search, and the law of runs holds of both and of the pair.
 pub fn compare<C: Cost, D: Cost>(
     blocks: u32,
-    first: C,
-    first_ceiling: u64,
-    first_calls: &[Call],
-    second: D,
-    second_ceiling: u64,
-    second_calls: &[Call],
+    first: Planned<C>,
+    second: Planned<D>,
 ) -> (Result<(Played, Played), Unopened>, C, D)
-    ensures exact { result.0 ≡ compared_of (C.Cost.price first) (D.Cost.price second) blocks first_ceiling first_calls.now second_ceiling second_calls.now }
-    ensures law { BothLaws (C.Cost.price first) (D.Cost.price second) blocks first_ceiling first_calls.now second_ceiling second_calls.now result.0 }
-    ensures first_back { Returned C.Cost.price C.Cost.put blocks first_ceiling first_calls.now first result.1 result.0 }
-    ensures second_back { Returned D.Cost.price D.Cost.put blocks second_ceiling second_calls.now second result.2 result.0 }
+    ensures exact { result.0 ≡ compared_of (C.Cost.price first.entry.cost) (D.Cost.price second.entry.cost) blocks first.entry.ceiling first.entry.calls.now second.entry.ceiling second.entry.calls.now }
+    ensures law { BothLaws (C.Cost.price first.entry.cost) (D.Cost.price second.entry.cost) blocks first.entry.ceiling first.entry.calls.now second.entry.ceiling second.entry.calls.now result.0 }
+    ensures first_back { Returned C.Cost.price C.Cost.put blocks first.entry.ceiling first.entry.calls.now first.entry.cost result.1 result.0 }
+    ensures second_back { Returned D.Cost.price D.Cost.put blocks second.entry.ceiling second.entry.calls.now second.entry.cost result.2 result.0 }
 {
-    if let Some(reason) = Search::refusal(&first, blocks, first_ceiling) {
-        return (
-            Err(Unopened {
-                run: Run::First,
-                reason,
-            }),
-            first,
-            second,
-        );
+    if let Some(reason) = Search::<C>::refusal(blocks, first.ceiling) {
+        let run = Run::First;
+        let unopened = Err(Unopened { run, reason });
+        return (unopened, first.into_cost(), second.into_cost());
     }
-    if let Some(reason) = Search::refusal(&second, blocks, second_ceiling) {
-        return (
-            Err(Unopened {
-                run: Run::Second,
-                reason,
-            }),
-            first,
-            second,
-        );
+    if let Some(reason) = Search::<D>::refusal(blocks, second.ceiling) {
+        let run = Run::Second;
+        let unopened = Err(Unopened { run, reason });
+        return (unopened, first.into_cost(), second.into_cost());
     }
-    let (one, two, first, second) = both_runs(
-        blocks,
-        first,
-        first_ceiling,
-        first_calls,
-        second,
-        second_ceiling,
-        second_calls,
-    );
+    let (one, two, first, second) = both_runs(blocks, first, second);
     (Ok((one, two)), first, second)
 }

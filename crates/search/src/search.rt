@@ -12,8 +12,8 @@ pub struct Search<C: Cost> {
     ceiling: u64,
     floor: u64,
     figure: u64,
-    stands: bool,
-    boundaries: [u32; 1025],
+    // As it is: places for the most blocks there can be, since a search allocates nothing.
+    standing: Option<[u32; 1025]>,
     advance_trials: u32,
     try_trials: u32,
     questions: u32,

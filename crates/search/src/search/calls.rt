@@ -1,26 +1,20 @@
 // The calls of a search.
-ghost use Rattle.std.specs.Prelude.{◌≡◌, ◌+◌, ◌^◌, ◌<◌, ◌≤◌, true, false, ◌&&◌, ltb, List, length, if◌then◌else◌, Some, None, Ok, Err, nat_le, nat_lt};
+ghost use Rattle.std.specs.Prelude.{◌≡◌, ◌+◌, ◌^◌, ◌<◌, ◌≤◌, true, false, List, length, Some, None, Ok, Err, nat_le, nat_lt};
 ghost use Rattle.search.specs.Answers.{Told, advance_answer, open_refusal, take_answer, taken, try_answer};
 ghost use Rattle.search.specs.Of.{AfterAdvance, AfterTry, Follows, LawAt, Opened, Ran, view_of};
+ghost use Rattle.search.specs.Purposes.{advances};
 ghost use Rattle.search.specs.Play.{AdvanceSplits, Fair, advance_ok, halfway, tried, trial_at, try_makes};
 ghost use Rattle.search.specs.Reports.{report_of, state_of};
 ghost use Rattle.search.specs.Trails.{Trail};
 ghost use Rattle.search.specs.Trial.{succeeds};
 
 use crate::call::Call;
+use crate::purpose::Purpose;
 use crate::report::{Report, State};
 use crate::search::Search;
 use crate::trial::trial;
 use cost::Cost;
 use refusal::{Declined, Refusal};
-
-/// One for the count that a trial is for, and none for the other.
-fn counts(advancing: bool) -> (u32, u32)
-    ensures advances { result.0 ≡ (if advancing then 1 else 0) }
-    ensures tries { result.1 ≡ (if advancing then 0 else 1) }
-{
-    if advancing { (1, 0) } else { (0, 1) }
-}
 
 /// The standing figure after a trial at c succeeded: what its cut costs, which may be below c.
 fn standing_at(c: u64, cost: u64) -> u64
@@ -48,10 +42,9 @@ fn advances_by(n: u32) -> bool
 
 impl<C: Cost> Search<C> {
     /// Why no search is opened with so many blocks and this ceiling, if there is a reason.
-    pub fn refusal(cost: &C, blocks: u32, ceiling: u64) -> Option<Refusal>
+    pub fn refusal(blocks: u32, ceiling: u64) -> Option<Refusal>
         ensures { result ≡ open_refusal blocks ceiling }
     {
-        let _ = cost;
         if blocks == 0 || blocks > 1024 {
             Some(Refusal::Blocks)
         } else if ceiling >= 1 << 60 {
@@ -72,8 +65,7 @@ impl<C: Cost> Search<C> {
             ceiling,
             floor: 0,
             figure: ceiling + 1,
-            stands: false,
-            boundaries: [0; 1025],
+            standing: None,
             advance_trials: 0,
             try_trials: 0,
             questions: 0,
@@ -84,7 +76,7 @@ impl<C: Cost> Search<C> {
     pub fn open(cost: C, blocks: u32, ceiling: u64) -> Result<Search<C>, Declined<C>>
         ensures { elim result [ Ok s ↦ Opened C.price cost blocks ceiling s | Err e ↦ (open_refusal blocks ceiling ≡ Some e.reason) × (e.brought ≡ cost) ] }
     {
-        match Search::refusal(&cost, blocks, ceiling) {
+        match Search::<C>::refusal(blocks, ceiling) {
             Some(reason) => Err(Declined {
                 reason,
                 brought: cost,
@@ -103,8 +95,7 @@ impl<C: Cost> Search<C> {
             ceiling: _,
             floor: _,
             figure: _,
-            stands: _,
-            boundaries: _,
+            standing: _,
             advance_trials: _,
             try_trials: _,
             questions: _,
@@ -116,9 +107,9 @@ impl<C: Cost> Search<C> {
     fn state(&self) -> State
         ensures { result ≡ state_of (view_of self.now) }
     {
-        if self.floor < self.figure {
+        if self.is_open() {
             State::Open
-        } else if self.stands {
+        } else if self.standing.is_some() {
             State::Settled
         } else {
             State::Missing
@@ -140,11 +131,11 @@ impl<C: Cost> Search<C> {
         }
     }
 
-    /// Whether an advance makes another trial: some are left, and the floor is below the standing figure.
-    fn goes_on(&self, left: u32) -> bool
-        ensures { result ≡ (nat_lt 0 left && nat_lt self.now.floor self.now.figure) }
+    /// Whether the floor is below the standing figure, so that another trial tells more.
+    fn is_open(&self) -> bool
+        ensures { result ≡ nat_lt self.now.floor self.now.figure }
     {
-        0 < left && self.floor < self.figure
+        self.floor < self.figure
     }
 
     /// Half the sum of the floor and the standing figure, rounded down.
@@ -155,11 +146,11 @@ impl<C: Cost> Search<C> {
     }
 
     /// One trial at c over all the rows, for the one count or the other: whether it succeeded.
-    fn one_trial(&mut self, c: u64, advancing: bool) -> bool
+    fn one_trial(&mut self, c: u64, purpose: Purpose) -> bool
         requires above { self.old.floor ≤ c }
         requires under { c < self.old.figure }
-        requires fair { Fair advancing (view_of self.old) c }
-        ensures exact { view_of self.new ≡ tried (C.price self.old.cost) self.old.blocks c advancing (view_of self.old) }
+        requires fair { Fair (advances purpose) (view_of self.old) c }
+        ensures exact { view_of self.new ≡ tried (C.price self.old.cost) self.old.blocks c (advances purpose) (view_of self.old) }
         ensures answer { result ≡ succeeds (C.price self.old.cost).rows self.old.blocks (trial_at (C.price self.old.cost) self.old.blocks c) }
         ensures kept { (C.price self.new.cost ≡ C.price self.old.cost) × (self.new.blocks ≡ self.old.blocks) × (self.new.ceiling ≡ self.old.ceiling) }
         ensures puts { Trail C.put self.old.cost (trial_at (C.price self.old.cost) self.old.blocks c).questions self.new.cost }
@@ -167,15 +158,14 @@ impl<C: Cost> Search<C> {
         let mut boundaries = [0; 1025];
         let rows = self.cost.row_count();
         let outcome = trial(&mut self.cost, &mut boundaries, self.blocks, rows, c);
-        let (advances, tries) = counts(advancing);
+        let (advances, tries) = purpose.counts();
         self.advance_trials += advances;
         self.try_trials += tries;
         match outcome {
             Ok((figure, asked)) => {
                 self.questions += asked;
                 self.figure = standing_at(c, figure);
-                self.stands = true;
-                self.boundaries = boundaries;
+                self.standing = Some(boundaries);
                 true
             }
             Err(asked) => {
@@ -197,11 +187,12 @@ impl<C: Cost> Search<C> {
         if !advances_by(n) {
             return Err(Refusal::Count);
         }
-        let mut left = n;
-        while self.goes_on(left) {
+        for _ in 0..n {
+            if !self.is_open() {
+                break;
+            }
             let c = self.half();
-            let _ = self.one_trial(c, true);
-            left -= 1;
+            let _ = self.one_trial(c, Purpose::Advance);
         }
         Ok(self.tell())
     }
@@ -229,7 +220,7 @@ impl<C: Cost> Search<C> {
 
     /// Whether another try trial may be made.
     fn tries_left(&self) -> bool
-        ensures { result ≡ ltb self.now.try_trials 65535 }
+        ensures { result ≡ nat_lt self.now.try_trials 65535 }
     {
         self.try_trials < 65535
     }
@@ -254,7 +245,7 @@ impl<C: Cost> Search<C> {
         if !self.tries_left() {
             return Err(Refusal::Count);
         }
-        let succeeded = self.one_trial(c, false);
+        let succeeded = self.one_trial(c, Purpose::Try);
         Ok((succeeded, self.tell()))
     }
 
@@ -264,14 +255,14 @@ impl<C: Cost> Search<C> {
         ensures answer { result ≡ take_answer self.old.blocks (view_of self.old) (length out.old) }
         ensures written { out.new ≡ taken self.old.blocks (view_of self.old) out.old }
     {
-        if !self.stands {
+        let Some(boundaries) = &self.standing else {
             return Err(Refusal::NoCut);
-        }
+        };
         let places = self.blocks as usize + 1;
         if out.len() < places {
             return Err(Refusal::Short);
         }
-        out[0..places].copy_from_slice(&self.boundaries[0..places]);
+        out[0..places].copy_from_slice(&boundaries[0..places]);
         Ok(())
     }
 }
