@@ -1,8 +1,8 @@
 -- Bits of what the operators on words make.
 use Rattle.std.proofs.Common.{◌≡◌, ℕ, zero, suc, ◌+◌, ◌-◌, ◌*◌, ◌/◌, ◌%◌, ◌^◌, ◌<◌, ◌≤◌, max, ◌⊎◌, sym, refl, ap, ◌∙◌, subst, ap₂, inl, inr, ⊎_elim, mul_assoc, add-mul, one-mul, mul_left_comm, arith}
-use native.Mathlib.Nat.{div-eq_of_lt}
+use native.Mathlib.Nat.{div-eq_of_lt, zero-div}
 use lib.Bits.{bit_and, bit_or, bit_xor}
-use Rattle.std.proofs.lemmas.Nat.{or_shr, or_mod, and_shr, and_mod, xor_shr, xor_mod, pow_pos, pow-add, shl-shr, shr-shr, mod-pow-add, mod_below, shr_high, shr_split, div_below, div-mul-add}
+use Rattle.std.proofs.lemmas.Nat.{and_mask, or_shr, or_mod, and_shr, and_mod, xor_shr, xor_mod, pow_pos, pow-add, shl-shr, shr-shr, mod-pow-add, mod_below, shr_high, shr_split, div_below, div-mul-add}
 use Rattle.gather.specs.Bits.{bit_of}
 
 pub bit_lt : (w s : ℕ) → bit_of w s < 2
@@ -52,6 +52,16 @@ xor_bits x y a b =
 pub bit_shr : (a k j : ℕ) → bit_of (a / 2 ^ k) j ≡ bit_of a (j + k)
 unfolding bit_of
 bit_shr a k j = ap (λ x. x % 2) (shr-shr a k j ∙ ap (λ x. a / 2 ^ x) (let e : k + j ≡ j + k = omega arith in e))
+
+-- a bit read by the operators
+pub bit_is : (w s : ℕ) → bit_and (w / 2 ^ s) 1 ≡ bit_of w s
+unfolding bit_of
+bit_is w s = and_mask (w / 2 ^ s) 1
+
+-- 0 has no bit
+pub bit_none : (s : ℕ) → bit_of 0 s ≡ 0
+unfolding bit_of
+bit_none s = ap (λ x. x % 2) (zero-div (2 ^ s))
 
 -- the bits below 64 are those of the rest by 2 ^ 64
 pub bit_mod : (x p : ℕ) → p < 64 → bit_of (x % 2 ^ 64) p ≡ bit_of x p

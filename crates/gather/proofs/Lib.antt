@@ -3,3 +3,4 @@ pub mod Bitwise
 pub mod Parities
 pub mod Moves
 pub mod Counts
+pub mod Parts

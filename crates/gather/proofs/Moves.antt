@@ -1,17 +1,12 @@
 -- Bits that move down.
-use Rattle.std.proofs.Common.{◌≡◌, ℕ, zero, suc, ◌+◌, ◌-◌, ◌*◌, ◌/◌, ◌%◌, ◌^◌, ◌<◌, ◌≤◌, max, ◌⊎◌, sym, ap, ◌∙◌, subst, ap₂, inl, inr, ⊎_elim, mod-eq_of_lt, one-mul, mul-zero, zero-mul, mul-one, arith}
+use Rattle.std.proofs.Common.{◌≡◌, ℕ, zero, suc, ◌+◌, ◌-◌, ◌*◌, ◌/◌, ◌%◌, ◌^◌, ◌<◌, ◌≤◌, max, ◌⊎◌, sym, ap, ◌∙◌, subst, ap₂, inl, inr, ⊎_elim, mod-eq_of_lt, one-mul, mul-zero, zero-mul, mul-one, arith, pow_mono}
 use native.Mathlib.Nat.{max-zero, zero-max, mod-le, mod-add-mod, mod-one}
 use Rattle.std.proofs.lemmas.Nat.{mod-pow-add, pow_pos, shr-shr}
 use Rattle.std.proofs.lemmas.Bool.{cases_lt, cases_order}
 use Rattle.gather.specs.Bits.{bit_of, sum_to}
-use Rattle.gather.specs.Gathered.{gap, spot, Steers, Gathered, Digit}
+use Rattle.gather.specs.Gathered.{gap, spot, Steers, Gathered, Moved, Digit, Along, Stepped}
 use Rattle.gather.proofs.Bitwise.{bit_lt, bit_two, bit_high, two}
 use Rattle.gather.proofs.Sums.{sum_more, sum_none, sum_le, sum_few, sum_bound}
-
--- y holds the bits of x at the set bits of s, each as far as i steps take it, and no other
-pub record Moved (s i x y : ℕ) : Type 0 where
-  pub kept : (p : ℕ) → p < 64 → bit_of s p ≡ 1 → bit_of y (spot s i p) ≡ bit_of x p
-  pub rest : (j : ℕ) → bit_of y j ≡ 1 → (p : ℕ) × ((p < 64) × (bit_of s p ≡ 1) × (spot s i p ≡ j))
 
 digit_more : (a i : ℕ) → a % 2 ^ (i + 1) ≡ bit_of a i * 2 ^ i + a % 2 ^ i
 unfolding bit_of
@@ -239,3 +234,14 @@ gathered s x y mv = record {
         let b = sum_bound (bit_of s) (bit_lt s) p in
         let m : gap s p % 2 ^ 6 ≡ gap s p = mod-eq_of_lt (let l : gap s p < 2 ^ 6 = omega arith in l) in
         omega (arith, b, m)
+
+-- the places of a step, as a number of 32 bits
+pub places : (i : ℕ) → i < 6 → 1 * 2 ^ i % 2 ^ 32 ≡ 2 ^ i
+places i h = let l : 2 ^ i ≤ 2 ^ 5 = pow_mono (let m : i ≤ 5 = omega arith in m) in ap (λ x. x % 2 ^ 32) (one-mul (2 ^ i)) ∙ mod-eq_of_lt (omega arith)
+
+pub few_places : (i : ℕ) → i < 6 → 1 * 2 ^ i % 2 ^ 32 < 64
+few_places i h = let l : 2 ^ i ≤ 2 ^ 5 = pow_mono (let m : i ≤ 5 = omega arith in m) in omega (arith, places i h)
+
+-- a word whose bits go along takes the next step
+pub go_along : (s i k m y z n : ℕ) → n ≡ 2 ^ i → Steers s i m → Along s i k y → Stepped y m n z → Along s (i + 1) k z
+go_along s i k m y z n e st a is = (a.0, (a.1.0, advance s i a.0 y m z st a.1.1 (subst (λ x. Stepped y m x z) e is)))

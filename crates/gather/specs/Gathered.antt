@@ -1,5 +1,5 @@
 -- The bits of a word at the set bits of another, brought together, and the way of each of them there.
-use Rattle.std.specs.Prelude.{◌≡◌, ℕ, ◌-◌, ◌%◌, ◌^◌, ◌<◌}
+use Rattle.std.specs.Prelude.{◌≡◌, ℕ, ◌+◌, ◌-◌, ◌*◌, ◌%◌, ◌^◌, ◌<◌, max}
 use Rattle.gather.specs.Bits.{bit_of, sum_to}
 
 -- the bits of x at the set bits of s stand together from bit 0 on, in their order, and no other
@@ -19,24 +19,19 @@ spot s i p = p - gap s p % 2 ^ i
 abbrev pub Steers : ℕ → ℕ → ℕ → Type 0
 Steers s i m = (p : ℕ) → p < 64 → bit_of s p ≡ 1 → bit_of m (spot s i p) ≡ bit_of (gap s p) i
 
--- six words steer the six steps
-pub record Steered (s a b c d e f : ℕ) : Type 0 where
-  pub m0 : Steers s 0 a
-  pub m1 : Steers s 1 b
-  pub m2 : Steers s 2 c
-  pub m3 : Steers s 3 d
-  pub m4 : Steers s 4 e
-  pub m5 : Steers s 5 f
+-- y holds the bits of x at the set bits of s, each as far as i steps take it, and no other
+pub record Moved (s i x y : ℕ) : Type 0 where
+  pub kept : (p : ℕ) → p < 64 → bit_of s p ≡ 1 → bit_of y (spot s i p) ≡ bit_of x p
+  pub rest : (j : ℕ) → bit_of y j ≡ 1 → (p : ℕ) × ((p < 64) × (bit_of s p ≡ 1) × (spot s i p ≡ j))
+
+-- z holds the bits of y, those at the set bits of m k places down
+abbrev pub Stepped : ℕ → ℕ → ℕ → ℕ → Type 0
+Stepped y m k z = (j : ℕ) → bit_of z j ≡ max (bit_of y j * (1 - bit_of m j)) (bit_of y (j + k) * bit_of m (j + k))
 
 -- bit k of the number of bits not set below each place
 abbrev pub Digit : ℕ → ℕ → ℕ → Type 0
 Digit s k d = (p : ℕ) → p < 64 → bit_of d p ≡ bit_of (gap s p) k
 
--- all six bits of it
-pub record Digits (s a b c d e f : ℕ) : Type 0 where
-  pub d0 : Digit s 0 a
-  pub d1 : Digit s 1 b
-  pub d2 : Digit s 2 c
-  pub d3 : Digit s 3 d
-  pub d4 : Digit s 4 e
-  pub d5 : Digit s 5 f
+-- y holds digit k of the gaps of the bits at the set bits of s, each as far as i steps take it
+abbrev pub Along : ℕ → ℕ → ℕ → ℕ → Type 0
+Along s i k y = (d : ℕ) × (Digit s k d × Moved s i d y)

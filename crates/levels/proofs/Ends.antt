@@ -1,5 +1,5 @@
 -- Where levels end.
-use Rattle.std.proofs.Common.{◌≡◌, ℕ, zero, suc, ◌+◌, ◌-◌, ◌*◌, ◌<◌, ◌≤◌, sym, refl, ap, ◌∙◌, add-one, arith}
+use Rattle.std.proofs.Common.{◌≡◌, ℕ, zero, suc, ◌+◌, ◌-◌, ◌*◌, ◌<◌, ◌≤◌, ◌^◌, sym, refl, ap, ◌∙◌, add-one, mul-le-mul, arith}
 use Rattle.levels.specs.Spans.{ends}
 
 pub ends_more : (b t at : ℕ) → 0 < t → ends b t at ≡ ends b (t - 1) (at + (2 * b + 2))
@@ -46,3 +46,14 @@ room_within b k t at h = let e : k + 1 + (t - (k + 1)) ≡ t = omega arith in om
     ends_up : (k d : ℕ) → ends b k at ≤ ends b (k + d) at
     ends_up k zero = let e : k + 0 ≡ k = omega arith in omega (arith, ap (λ x. ends b x at) e)
     ends_up k (suc d) = let e : k + suc d ≡ (k + d) + 1 = omega arith in omega (arith, ends_up k d, ends_next b (k + d) at, ap (λ x. ends b x at) e)
+
+-- levels that begin early, and are neither wide nor many, end early
+pub ends_near : (b t at : ℕ) → at < 2 ^ 32 → b < 2 ^ 27 → t ≤ 32 → ends b t at < 2 ^ 40
+ends_near b t at h w m =
+    let v : 2 * b + 2 ≤ 2 ^ 28 = omega arith in
+    let l : t * (2 * b + 2) ≤ 32 * 2 ^ 28 = mul-le-mul m v in
+    omega (arith, ends_is b t at)
+
+-- the levels below the first end where all do
+pub ends_below : (b t at b' t' at' : ℕ) → 0 < t → b' ≡ b → t' ≡ t - 1 → at' ≡ at + (2 * b + 2) → ends b' t' at' ≡ ends b t at
+ends_below b t at b' t' at' p i j k = rw (i, j, k) (sym (ends_more b t at p))

@@ -5,6 +5,7 @@ use Rattle.std.proofs.lemmas.List.{append-nil, length-append, map-append, get_or
 use Rattle.std.proofs.lemmas.List.Elements.{filter_more}
 use Rattle.std.proofs.lemmas.Bool.{cases_lt}
 use Rattle.gather.specs.Bits.{bit_of}
+use Rattle.gather.proofs.Bitwise.{bit_none}
 use Rattle.levels.specs.Planes.{Routed, bit_at, bits_from, chosen, route}
 use Rattle.levels.proofs.Routes.{chosen_both, route_in}
 use Rattle.levels.specs.Numbers.{pack, sorted}
@@ -72,10 +73,6 @@ module _ (f : ℕ → ℕ) (cs : List ℕ) (u : ℕ) (sel : (k : ℕ) → k < le
 
 pub length_sorted : (t : ℕ) (cs : List ℕ) → length (sorted t cs) ≡ length cs
 length_sorted t cs = length-append (filter (zero_at t) cs) (filter (one_at t) cs) ∙ kept_two t cs
-
-bit_none : (t : ℕ) → bit_of 0 t ≡ 0
-unfolding bit_of
-bit_none t = ap (λ x. x % 2) (native.Mathlib.Nat.zero-div (2 ^ t))
 
 pub routed_plane : (f p q : ℕ → ℕ) (cs : List ℕ) (u t b : ℕ) → ((k : ℕ) → f k < 2) → length cs ≤ 64 * b
     → ((k : ℕ) → k < length cs → f k ≡ bit_of (get_or cs k 0) u) → ((k : ℕ) → k < 64 * b → p k ≡ bit_of (get_or cs k 0) t)

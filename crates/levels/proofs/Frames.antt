@@ -1,13 +1,17 @@
 -- Writes to a stretch of words, and what they leave alone.
-use Rattle.std.proofs.Common.{◌≡◌, ℕ, zero, suc, ◌+◌, ◌-◌, ◌*◌, ◌/◌, ◌%◌, ◌^◌, ◌<◌, ◌≤◌, List, length, get_or, set, sym, refl, ap, ◌∙◌, ap₂, ⊎_elim, lt_of_le_of_lt, arith}
+use Rattle.std.proofs.Common.{◌≡◌, ℕ, zero, suc, ◌+◌, ◌-◌, ◌*◌, ◌/◌, ◌%◌, ◌^◌, ◌<◌, ◌≤◌, List, ◌++◌, length, get_or, set, take, drop, sym, refl, ap, ◌∙◌, ap₂, subst, ⊎_elim, lt_of_le_of_lt, length-drop, arith}
 use native.Mathlib.Nat.{mod-le}
 use lib.Bits.{bit_and}
 use Rattle.std.proofs.lemmas.Nat.{and_mask}
-use Rattle.std.proofs.lemmas.List.{get_or-set_same, get_or-set_other}
+use borrow.Rule.Slice.PartMut.{put_mid}
+use Rattle.std.specs.List.{between}
+use Rattle.std.proofs.lemmas.List.{get_or-set_same, get_or-set_other, get_or-take, length-take-le}
+use Rattle.std.proofs.lemmas.List.Edits.{get_or-between, length-between}
 use Rattle.std.proofs.lemmas.Bool.{cases_eq}
 use Rattle.gather.specs.Bits.{bit_of, sum_to}
 use Rattle.levels.specs.Planes.{Outside, bit_at, bits_from}
 use Rattle.gather.proofs.Bitwise.{bit_lt}
+use Rattle.gather.proofs.Sums.{sum_cong}
 use Rattle.gather.proofs.Counts.{ones_low, ones_word}
 
 pub outside_self : (a e : ℕ) (ws : List ℕ) → Outside a e ws ws
@@ -18,10 +22,6 @@ outside_set a e was is p v o l h = (
   λ i k. get_or-set_other is p i v 0 (λ q. omega arith) ∙ o.0 i k,
   λ i k. get_or-set_other is p i v 0 (λ q. omega arith) ∙ o.1 i k,
 )
-
--- a stretch within another
-pub outside_wide : (a e a' e' : ℕ) (was is : List ℕ) → a ≤ a' → e' ≤ e → Outside a' e' was is → Outside a e was is
-outside_wide a e a' e' was is l h o = (λ i k. o.0 i (omega arith), λ i k. o.1 i (omega arith))
 
 pub outside_then : (a e : ℕ) (xs ys zs : List ℕ) → Outside a e xs ys → Outside a e ys zs → Outside a e xs zs
 outside_then a e xs ys zs o p = (λ i k. p.0 i k ∙ o.0 i k, λ i k. p.1 i k ∙ o.1 i k)
@@ -95,3 +95,45 @@ word_bit ws a i p h =
     let e : (64 * a + (64 * i + p)) / 64 ≡ a + i = omega arith in
     let f : (64 * a + (64 * i + p)) % 64 ≡ p = omega arith in
     ap₂ (λ x y. bit_of (get_or ws x 0) y) e f
+
+pub bit_word : (ws : List ℕ) (d : ℕ) → bit_at ws d ≡ bit_of (get_or ws (d / 64) 0) (d % 64)
+unfolding bit_at
+bit_word ws d = refl
+
+-- the bits of words that stand from word a on
+module _ (part ws : List ℕ) (a n : ℕ) (same : (i : ℕ) → i < n → get_or part i 0 ≡ get_or ws (a + i) 0) where
+  pub part_bits : (d : ℕ) → d < 64 * n → bit_at part d ≡ bits_from ws a d
+  part_bits d l = bit_word part d ∙ ap (λ x. bit_of x (d % 64)) (same (d / 64) (omega arith)) ∙ sym (bits_from_word ws a d)
+
+  pub part_sums : (k : ℕ) → k ≤ 64 * n → sum_to (bit_at part) k ≡ sum_to (bits_from ws a) k
+  part_sums k l = sum_cong (bit_at part) (bits_from ws a) k (λ j h. part_bits j (omega arith))
+
+pub bit_at_lt : (ws : List ℕ) (d : ℕ) → bit_at ws d < 2
+bit_at_lt ws d = subst (λ x. x < 2) (sym (bit_word ws d)) (bit_lt (get_or ws (d / 64) 0) (d % 64))
+
+pub sum_bits_more : (ws : List ℕ) (i : ℕ) → sum_to (bit_at ws) (64 * (i + 1)) ≡ sum_to (bit_at ws) (64 * i) + sum_to (bit_of (get_or ws i 0)) 64
+sum_bits_more ws i =
+    let zero : (k : ℕ) → get_or ws k 0 ≡ get_or ws (0 + k) 0 = λ k. ap (λ x. get_or ws x 0) (let e : k ≡ 0 + k = omega arith in e) in
+    let same = part_sums ws ws 0 (i + 1) (λ k l. zero k) in
+    let m = sum_to_more ws 0 i in
+    let w = ap (λ x. sum_to (bit_of x) 64) (zero i) in
+    omega (arith, same (64 * (i + 1)) (omega arith), same (64 * i) (omega arith), m, w)
+
+-- a level cut after its plane: the plane in the front, and the counts in the back
+module _ (ws front back : List ℕ) (at b : ℕ) (room : at + (2 * b + 2) ≤ length ws) (f : front ≡ take (at + 1 + b) ws) (g : back ≡ drop (at + 1 + b) ws) where
+  front_length : length front ≡ at + 1 + b
+  front_length = ap length f ∙ length-take-le (at + 1 + b) ws (omega arith)
+
+  pub cut_plane_length : length (between (at + 1) (length front) front) ≡ b
+  cut_plane_length = length-between front (at + 1) (length front) (omega arith) ∙ omega (arith, front_length)
+
+  pub cut_counts_length : length (take (b + 1) back) ≡ b + 1
+  cut_counts_length = length-take-le (b + 1) back (omega (arith, ap length g, length-drop (at + 1 + b) ws))
+
+  pub cut_plane : (i : ℕ) → i < b → get_or (between (at + 1) (length front) front) i 0 ≡ get_or ws (at + 1 + i) 0
+  cut_plane i l =
+      get_or-between front (at + 1) (length front) i 0 (omega (arith, front_length)) ∙ ap (λ x. get_or x (at + 1 + i) 0) f
+      ∙ get_or-take (at + 1 + b) ws (at + 1 + i) 0 (omega arith)
+
+  pub cut_put : (counts : List ℕ) → front ++ (counts ++ drop (b + 1) back) ≡ put_mid (at + 1 + b) (b + 1) ws counts
+  cut_put counts = ap₂ (λ x y. x ++ (counts ++ drop (b + 1) y)) f g

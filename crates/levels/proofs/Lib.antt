@@ -15,4 +15,5 @@ pub mod Descents
 pub mod Digits
 pub mod Deciding
 pub mod Tails
+pub mod Standing
 pub mod Puts

@@ -5,7 +5,7 @@ use lib.Bits.{bit_or}
 use Rattle.std.proofs.lemmas.Nat.{mod_below}
 use Rattle.std.proofs.lemmas.Bool.{cases_lt}
 use Rattle.gather.specs.Bits.{bit_of}
-use Rattle.gather.proofs.Bitwise.{bit_high, bit_lt, bit-or, or_bits, shl_high, shl_low}
+use Rattle.gather.proofs.Bitwise.{bit_high, bit_lt, bit_none, bit-or, or_bits, shl_high, shl_low}
 use Rattle.levels.specs.Planes.{Outside, bit_at, bits_from}
 use Rattle.levels.specs.Spans.{ends, value_at}
 use Rattle.levels.specs.Streams.{within}
@@ -13,10 +13,6 @@ use Rattle.levels.proofs.Appends.{within_yes}
 use Rattle.levels.proofs.Ends.{ends_more, room_for}
 use Rattle.levels.proofs.Frames.{bits_before, bits_from_word}
 use Rattle.levels.proofs.Values.{low_split, value_more, value_same, value_zero}
-
-pub bit_none : (t : ℕ) → bit_of 0 t ≡ 0
-unfolding bit_of
-bit_none t = ap (λ x. x % 2) (native.Mathlib.Nat.zero-div (2 ^ t))
 
 pub joined_bits : (w v j : ℕ) → bit_of (bit_or w v) j ≡ max (bit_of w j) (bit_of v j)
 joined_bits w v j = bit-or w v j ∙ or_bits (bit_of w j) (bit_of v j) (bit_lt w j) (bit_lt v j)

@@ -1,11 +1,12 @@
 -- Levels in a table: where they stand, and what is in them.
-use Rattle.std.proofs.Common.{◌≡◌, ℕ, zero, suc, ◌+◌, ◌-◌, ◌*◌, ◌/◌, ◌%◌, ◌^◌, ◌<◌, ◌≤◌, List, [], ◌∷◌, ◌++◌, length, get_or, take, drop, sum, sym, refl, ap, ◌∙◌, subst, ap₂, ⊎_elim, arith}
+use Rattle.std.proofs.Common.{◌≡◌, ℕ, zero, suc, ◌+◌, ◌-◌, ◌*◌, ◌/◌, ◌^◌, ◌<◌, ◌≤◌, List, [], ◌∷◌, ◌++◌, length, get_or, take, drop, sum, sym, refl, ap, ◌∙◌, subst, ap₂, ⊎_elim, arith}
 use Rattle.std.specs.List.{between}
 use Rattle.std.proofs.lemmas.List.{ext_get_or, get_or_append_left, get_or-append_right, length-map, take_all, take-append-drop, take-take, drop-take, drop-drop}
 use Rattle.std.proofs.lemmas.List.Edits.{length-between, get_or-between}
 use Rattle.std.proofs.lemmas.List.FromFn.{get_or-map-range_with_len}
 use Rattle.std.proofs.lemmas.Bool.{cases_lt}
 use Rattle.gather.specs.Bits.{bit_of, sum_to}
+use Rattle.gather.proofs.Bitwise.{bit_none}
 use Rattle.levels.specs.Planes.{Outside, Routed, bits_from}
 use Rattle.levels.proofs.Ends.{ends_more, room_for}
 use Rattle.levels.proofs.Frames.{bits_same}
@@ -35,9 +36,6 @@ between_cong xs ys a e l m h =
 pub plane_at : (t : ℕ) (cs : List ℕ) (k : ℕ) → get_or (plane t cs) k 0 ≡ bit_of (get_or cs k 0) t
 unfolding bit_of
 plane_at t [] k = sym (bit_none t)
-  where
-    bit_none : (t : ℕ) → bit_of 0 t ≡ 0
-    bit_none t = ap (λ x. x % 2) (native.Mathlib.Nat.zero-div (2 ^ t))
 plane_at t (c ∷ cs) zero = refl
 plane_at t (c ∷ cs) (suc k) = plane_at t cs k
 
@@ -84,20 +82,10 @@ module _ (b t : ℕ) (p : 0 < t) where
   unfolding Holds
   holds_more cs ws at h = let e : t ≡ suc (t - 1) = omega arith in subst (λ n. Holds b n cs ws at) e h
 
-  pub holds_make : (cs ws : List ℕ) (at : ℕ)
-      → ((k : ℕ) → k < 64 * b → bits_from ws (at + 1) k ≡ bit_of (get_or cs k 0) (t - 1)) × Holds b (t - 1) cs ws (at + (2 * b + 2)) → Holds b t cs ws at
-  unfolding Holds
-  holds_make cs ws at h = let e : suc (t - 1) ≡ t = omega arith in subst (λ n. Holds b n cs ws at) e h
-
   pub tails_more : (n : ℕ) (ws : List ℕ) (at : ℕ) → Tails b t n ws at
       → ((k : ℕ) → n ≤ k → k < 64 * b → bits_from ws (at + 1) k ≡ 0) × Tails b (t - 1) n ws (at + (2 * b + 2))
   unfolding Tails
   tails_more n ws at h = let e : t ≡ suc (t - 1) = omega arith in subst (λ m. Tails b m n ws at) e h
-
-  pub tails_make : (n : ℕ) (ws : List ℕ) (at : ℕ)
-      → ((k : ℕ) → n ≤ k → k < 64 * b → bits_from ws (at + 1) k ≡ 0) × Tails b (t - 1) n ws (at + (2 * b + 2)) → Tails b t n ws at
-  unfolding Tails
-  tails_make n ws at h = let e : suc (t - 1) ≡ t = omega arith in subst (λ m. Tails b m n ws at) e h
 
   pub levels_make : (cs : List ℕ) → levels b t cs ≡ level b (plane (t - 1) cs) ++ levels b (t - 1) (sorted (t - 1) cs)
   unfolding levels
@@ -110,14 +98,6 @@ holds_after b (suc t) cs was is at f h = (
   λ k l. bits_same is was (at + 1) (at + 1) k (f (at + 1 + k / 64) (omega arith)) ∙ h.0 k l,
   holds_after b t cs was is (at + (2 * b + 2)) (λ i l. f i (omega arith)) h.1,
 )
-
-pub holds_none : (b : ℕ) (cs ws : List ℕ) (at : ℕ) → Holds b 0 cs ws at
-unfolding Holds
-holds_none b cs ws at = tt
-
-pub tails_none : (b n : ℕ) (ws : List ℕ) (at : ℕ) → Tails b 0 n ws at
-unfolding Tails
-tails_none b n ws at = tt
 
 pub levels_none : (b : ℕ) (cs : List ℕ) → levels b 0 cs ≡ []
 unfolding levels
@@ -163,9 +143,6 @@ module _ (was one two is : List ℕ) (at b n t : ℕ) (p : 0 < t) (fit : n ≤ 6
         λ i h. o3.0 i (omega arith) ∙ o2.0 i (omega arith) ∙ o1.0 i h,
         λ i h. o3.1 i (omega arith) ∙ o2.1 i (omega arith) ∙ o1.1 i (omega arith),
       )
-
-  pub sel_kept : (k : ℕ) → k < n → bits_from one (at + 1) k ≡ bits_from was (at + 1) k
-  sel_kept k l = bits_same one was (at + 1) (at + 1) k (bits (k / 64) (omega arith))
 
   pub finish_levels : (cs : List ℕ) → length cs ≡ n
       → between at (at + (2 * b + 2)) one ≡ level b (plane (t - 1) cs)

@@ -6,6 +6,7 @@ use Rattle.std.proofs.lemmas.List.FromFn.{get_or-map-range_with_len}
 use Rattle.std.proofs.lemmas.List.Edits.{between_none, get_or-between, length-between}
 use Rattle.std.proofs.lemmas.Bool.{cases_lt, cases_eq, eq-eqb, ne_eqb}
 use Rattle.gather.specs.Bits.{bit_of, sum_to}
+use Rattle.gather.proofs.Bitwise.{bit_none}
 use Rattle.levels.specs.Planes.{bit_at, bits_from, chosen, route}
 use Rattle.levels.proofs.Ends.{ends_le}
 use Rattle.levels.proofs.Frames.{bits_lt, bits_from_word}
@@ -16,10 +17,6 @@ use Rattle.levels.specs.Traces.{Stands, AllStand, onward, Traced}
 use Rattle.levels.proofs.Leveled.{Bits, bits_plane, bit_at_packed, length_packed, length_level}
 use Rattle.levels.proofs.Finals.{word_is, route_sorted, length_sorted}
 use Rattle.levels.proofs.Regions.{level_at, plane_at, sum_to_bits, between_split}
-
-bit_none : (t : ℕ) → bit_of 0 t ≡ 0
-unfolding bit_of
-bit_none t = ap (λ x. x % 2) (native.Mathlib.Nat.zero-div (2 ^ t))
 
 module _ (ws : List ℕ) (small : (i : ℕ) → get_or ws i 0 < 2 ^ 64) (b : ℕ) where
   -- one level: if it stands, and its bits are those of the numbers, its words are those of the plane
@@ -202,10 +199,6 @@ module _ (b t : ℕ) (p : 0 < t) where
   unfolding AllStand
   stand_more n ws at h = let e : t ≡ suc (t - 1) = omega arith in subst (λ x. AllStand b x n ws at) e h
 
-  pub stand_make : (n : ℕ) (ws : List ℕ) (at : ℕ) → Stands b n ws at × AllStand b (t - 1) n ws (at + (2 * b + 2)) → AllStand b t n ws at
-  unfolding AllStand
-  stand_make n ws at h = let e : suc (t - 1) ≡ t = omega arith in subst (λ x. AllStand b x n ws at) e h
-
   pub traced_more : (ws : List ℕ) (at q c : ℕ) → Traced b t ws at q c → (bits_from ws (at + 1) q ≡ bit_of c (t - 1)) × Traced b (t - 1) ws (at + (2 * b + 2)) (onward ws at q) c
   unfolding Traced
   traced_more ws at q c h = let e : t ≡ suc (t - 1) = omega arith in subst (λ x. Traced b x ws at q c) e h
@@ -217,7 +210,3 @@ module _ (b t : ℕ) (p : 0 < t) where
 pub traced_none : (b : ℕ) (ws : List ℕ) (at q c : ℕ) → Traced b 0 ws at q c
 unfolding Traced
 traced_none b ws at q c = tt
-
-pub stand_none : (b n : ℕ) (ws : List ℕ) (at : ℕ) → AllStand b 0 n ws at
-unfolding AllStand
-stand_none b n ws at = tt

@@ -4,6 +4,7 @@ use Rattle.std.proofs.lemmas.Nat.{mod-pow-add, mod_below, pow_pos, div-mul-add, 
 use Rattle.std.proofs.lemmas.List.{get_or_past}
 use Rattle.std.proofs.lemmas.Bool.{cases_eq}
 use Rattle.gather.specs.Bits.{bit_of}
+use Rattle.gather.proofs.Bitwise.{bit_none}
 use Rattle.levels.specs.Planes.{bit_at, bits_from}
 use Rattle.levels.proofs.Ends.{ends_more, room_for}
 use Rattle.levels.proofs.Frames.{bits_same, bits_lt}
@@ -82,10 +83,6 @@ value_wiped b (suc t) ws from size at q f l h m =
     let z : bits_from ws (at + 1) q ≡ 0 = ap (λ x. bit_at ws x) p ∙ f (64 * (at + 1 - from) + q) (omega arith) in
     let ih = value_wiped b t ws from size (at + (2 * b + 2)) q f (omega arith) (omega arith) m in
     ap₂ (λ x y. x * 2 ^ t + y) z ih ∙ omega (arith, native.Mathlib.Nat.zero-mul (2 ^ t))
-
-bit_none : (t : ℕ) → bit_of 0 t ≡ 0
-unfolding bit_of
-bit_none t = ap (λ x. x % 2) (native.Mathlib.Nat.zero-div (2 ^ t))
 
 pub holds_tails : (b t n : ℕ) (cs ws : List ℕ) (at : ℕ) → length cs ≤ n → Holds b t cs ws at → Tails b t n ws at
 unfolding Holds Tails

@@ -1,13 +1,28 @@
 -- What is done to each of the levels that stand one after another. A level at A has its plane from A + 1 on, b words, and
 -- after that its room, b + 1 words.
 use Rattle.std.specs.Prelude.{◌≡◌, ℕ, zero, suc, ◌+◌, ◌*◌, ◌<◌, List, slice_index}
+use Rattle.std.specs.Borrow.{MutBor}
+use Rattle.std.specs.List.{between}
 use Rattle.levels.specs.Planes.{bits_from}
+use Rattle.levels.specs.Spans.{ends}
 use Rattle.levels.specs.Streams.{Added}
 
 -- a fact holds of each of t levels from word `at` on
 unfoldable pub Each : ℕ → ℕ → (ℕ → Type 0) → ℕ → Type 0
 Each b zero fact at = Unit {0}
 Each b (suc t) fact at = fact at × Each b t fact (at + (2 * b + 2))
+
+-- a fact holds of one of them
+unfoldable pub OneOf : ℕ → ℕ → (ℕ → Type 0) → ℕ → Type 0
+OneOf b t fact at = (k : ℕ) × (k < t) × fact (ends b k at)
+
+-- the words of the level at A
+abbrev pub level_words : ℕ → List ℕ → ℕ → List ℕ
+level_words b ws A = between A (A + (2 * b + 2)) ws
+
+-- a call with this outcome may make the words `is` of the words `was`
+abbrev pub Made : (MutBor (List ℕ) → Unit {0} → MutBor (List ℕ) → Type 0) → List ℕ → List ℕ → Type 0
+Made post was is = (x : MutBor (List ℕ)) × (y : MutBor (List ℕ)) × (x.now ≡ was) × (y.now ≡ is) × post x tt y
 
 -- the plane is as it was
 abbrev pub Kept : ℕ → List ℕ → List ℕ → ℕ → Type 0

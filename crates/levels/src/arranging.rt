@@ -1,42 +1,45 @@
 ghost use Rattle.std.specs.Prelude.{◌≡◌, ℕ, ◌+◌, ◌-◌, ◌*◌, ◌%◌, ◌^◌, ◌<◌, ◌≤◌, List, length, slice_index};
 ghost use Rattle.gather.specs.Bits.{bit_of, sum_to};
-ghost use Rattle.levels.specs.Layouts.{Has, Reaches, end_of};
+ghost use Rattle.levels.specs.Layouts.{Has, InReach, Reaches, end_of};
 ghost use Rattle.levels.specs.Numbers.{level as Level, levels as Levels, plane};
 ghost use Rattle.levels.specs.Planes.{Outside, bits_from};
 ghost use Rattle.levels.specs.Spans.{Holds, Tails, ends, value_at};
 ghost use Rattle.std.specs.List.{between};
 
-use super::checking::tails_clear;
 use super::layout::Layout;
-use super::partition::partition;
-use super::planes::{put_word, tally};
+use super::planes::put_word;
+use super::span::Span;
 
-/// Makes a level of the plane of bits from word `at + 1` on, and says how many zero bits it has.
-fn settle(ws: &mut [u64], at: usize, b: usize, n: usize) -> usize
-    requires b_in_bounds { (at + (2 * b + 2) ≤ length ws.old) × ((at + (2 * b + 2) < 2 ^ 40) × (n ≤ 64 * b)) }
-    requires by_index { (k : ℕ) → n ≤ k → k < 64 * b → bits_from ws.old (at + 1) k ≡ 0 }
-    ensures zeros { result ≡ n - sum_to (bits_from ws.old (at + 1)) n }
-    ensures bits { (i : ℕ) → i < b → slice_index ws.new (at + 1 + i) ≡ slice_index ws.old (at + 1 + i) }
-    ensures outside { Outside at (at + (2 * b + 2)) ws.old ws.new }
-    ensures level { (cs : List ℕ) (u : ℕ) → length cs ≡ n → ((k : ℕ) → k < 64 * b → bits_from ws.old (at + 1) k ≡ bit_of (slice_index cs k) u) → between at (at + (2 * b + 2)) ws.new ≡ Level b (plane u cs) }
-{
-    let ones = tally(ws, at + 1, b);
-    let zeros = n.saturating_sub(ones);
-    put_word(ws, at, zeros as u64);
-    zeros
-}
+impl Span {
+    /// Makes a level of the first plane, and says how many zero bits it has.
+    #[tactic(auto, using(crate::proofs::Ends::room_for))]
+    fn settle(&self, memory: &mut [u64]) -> usize
+        requires reach { InReach self.now memory.old × (0 < self.now.bits) }
+        requires tail { (k : ℕ) → self.now.count ≤ k → k < 64 * self.now.words → bits_from memory.old (self.now.at + 1) k ≡ 0 }
+        ensures zeros { result ≡ self.now.count - sum_to (bits_from memory.old (self.now.at + 1)) self.now.count }
+        ensures bits { (i : ℕ) → i < self.now.words → slice_index memory.new (self.now.at + 1 + i) ≡ slice_index memory.old (self.now.at + 1 + i) }
+        ensures outside { Outside self.now.at (self.now.at + (2 * self.now.words + 2)) memory.old memory.new }
+        ensures level { (cs : List ℕ) (u : ℕ) → length cs ≡ self.now.count → ((k : ℕ) → k < 64 * self.now.words → bits_from memory.old (self.now.at + 1) k ≡ bit_of (slice_index cs k) u) → between self.now.at (self.now.at + (2 * self.now.words + 2)) memory.new ≡ Level self.now.words (plane u cs) }
+    {
+        let ones = self.tally(memory);
+        let zeros = self.count.saturating_sub(ones);
+        put_word(memory, self.at, zeros as u64);
+        zeros
+    }
 
-/// Makes levels of the `t` planes of bits from word `at` on.
-fn finish(ws: &mut [u64], at: usize, b: usize, n: usize, t: usize)
-    requires sizes { (ends b t at ≤ length ws.old) × ((ends b t at < 2 ^ 40) × ((n ≤ 64 * b) × (64 * b < n + 64))) }
-    requires tails { Tails b t n ws.old at }
-    ensures outside { Outside at (ends b t at) ws.old ws.new }
-    ensures levels { (cs : List ℕ) → length cs ≡ n → Holds b t cs ws.old at → between at (ends b t at) ws.new ≡ Levels b t cs }
-{
-    if t > 0 {
-        let zeros = settle(ws, at, b, n);
-        partition(ws, at + 1, at + (2 * b + 2), b, n, zeros, t - 1);
-        finish(ws, at + (2 * b + 2), b, n, t - 1);
+    /// Makes levels of the planes.
+    fn finish(&self, memory: &mut [u64])
+        requires reach { InReach self.now memory.old }
+        requires tails { Tails self.now.words self.now.bits self.now.count memory.old self.now.at }
+        ensures outside { Outside self.now.at (ends self.now.words self.now.bits self.now.at) memory.old memory.new }
+        ensures levels { (cs : List ℕ) → length cs ≡ self.now.count → Holds self.now.words self.now.bits cs memory.old self.now.at → between self.now.at (ends self.now.words self.now.bits self.now.at) memory.new ≡ Levels self.now.words self.now.bits cs }
+    {
+        if self.bits > 0 {
+            let zeros = self.settle(memory);
+            let below = self.below();
+            below.partition(memory, self.at + 1, zeros);
+            below.finish(memory);
+        }
     }
 }
 
@@ -49,8 +52,9 @@ impl Layout {
         if self.end() > memory.len() {
             return;
         }
-        if tails_clear(memory, self.start, self.words, self.count, self.bits) {
-            finish(memory, self.start, self.words, self.count, self.bits);
+        let span = self.span();
+        if span.tails_clear(memory) {
+            span.finish(memory);
         }
     }
 }

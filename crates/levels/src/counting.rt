@@ -1,22 +1,12 @@
-ghost use Rattle.std.specs.Prelude.{◌≡◌, ℕ, ◌+◌, ◌-◌, ◌*◌, ◌%◌, ◌^◌, ◌<◌, ◌≤◌, List, length, slice_index};
-ghost use Rattle.gather.specs.Bits.{sum_to};
+ghost use Rattle.std.specs.Prelude.{◌≡◌, ℕ, ◌+◌, ◌-◌, ◌*◌, ◌%◌, ◌^◌, ◌<◌, ◌≤◌, List, length};
 ghost use Rattle.levels.specs.Counting.{count_less};
-ghost use Rattle.levels.specs.Layouts.{Has, Reaches};
-ghost use Rattle.levels.specs.Numbers.{AllBelow, numbers_below, levels as Levels};
-ghost use Rattle.levels.specs.Planes.{bits_from};
+ghost use Rattle.levels.specs.Layouts.{Has, InReach, Reaches};
+ghost use Rattle.levels.specs.Numbers.{AllBelow, numbers_below, levels as Levels, sorted};
 ghost use Rattle.levels.specs.Spans.{ends};
 ghost use Rattle.std.specs.List.{between};
 
 use super::layout::Layout;
-use super::planes::ones_before;
-
-/// How many ones stand before a stretch's start and before its far end, by right running counts.
-fn ones_around(ws: &[u64], a: usize, b: usize, from: usize, to: usize) -> (usize, usize)
-    requires { (a + 2 * b + 1 ≤ length ws.now) × ((a + 2 * b + 1 < 2 ^ 40) × ((from ≤ 64 * b) × (to ≤ 64 * b))) }
-    ensures { ((i : ℕ) → i ≤ b → slice_index ws.now (a + b + i) ≡ sum_to (bits_from ws.now a) (64 * i)) → (result.0 ≡ sum_to (bits_from ws.now a) from) × (result.1 ≡ sum_to (bits_from ws.now a) to) }
-{
-    (ones_before(ws, a, b, from), ones_before(ws, a, b, to))
-}
+use super::span::Span;
 
 /// How many zeros a stretch has, by the ones before its start and before its far end.
 fn zeros_within(from: usize, to: usize, ones_from: usize, ones_to: usize) -> usize
@@ -34,34 +24,49 @@ fn among_ones(zeros: usize, ones: usize, top: usize) -> usize
     zeros.saturating_add(ones).min(top)
 }
 
-/// How many of the numbers of a stretch are below `x` by their `t` lowest bits, added to those found so far.
-fn below(
-    ws: &[u64],
-    at: usize,
-    b: usize,
-    t: usize,
-    from: usize,
-    to: usize,
-    x: u32,
-    found: usize,
-) -> usize
-    requires { (ends b t at ≤ length ws.now) × ((ends b t at < 2 ^ 40) × ((from ≤ 64 * b) × ((to ≤ 64 * b) × (t ≤ 32)))) }
-    ensures { (cs : List ℕ) → length cs ≤ 64 * b → between at (ends b t at) ws.now ≡ Levels b t cs → from ≤ to → to ≤ length cs → found + count_less t x (between from to cs) < 2 ^ 64 → result ≡ found + count_less t x (between from to cs) }
-{
-    if t == 0 {
-        return found;
+impl Span {
+    /// Where the numbers of a stretch go in the next level that have the same highest bit as `x`, and how many of the others
+    /// are below `x`.
+    #[tactic(auto, using(crate::proofs::Ends::room_for))]
+    fn descend(&self, memory: &[u64], from: usize, to: usize, x: u32) -> (usize, usize, usize)
+        requires { InReach self.now memory.now × (0 < self.now.bits) × (from ≤ 64 * self.now.words) × (to ≤ 64 * self.now.words) }
+        ensures within { (result.0 ≤ 64 * self.now.words) × (result.1 ≤ 64 * self.now.words) }
+        ensures counted { (cs : List ℕ) → length cs ≤ 64 * self.now.words → between self.now.at (ends self.now.words self.now.bits self.now.at) memory.now ≡ Levels self.now.words self.now.bits cs → from ≤ to → to ≤ length cs → (result.0 ≤ result.1) × (result.1 ≤ length cs) × (count_less self.now.bits x (between from to cs) ≡ result.2 + count_less (self.now.bits - 1) x (between result.0 result.1 (sorted (self.now.bits - 1) cs))) }
+    {
+        let ones_from = self.ones_before(memory, from);
+        let ones_to = self.ones_before(memory, to);
+        if (x >> (self.bits - 1)) & 1 == 0 {
+            return (
+                from.saturating_sub(ones_from),
+                to.saturating_sub(ones_to),
+                0,
+            );
+        }
+        let zeros = memory[self.at] as usize;
+        let top = 64 * self.words;
+        (
+            among_ones(zeros, ones_from, top),
+            among_ones(zeros, ones_to, top),
+            zeros_within(from, to, ones_from, ones_to),
+        )
     }
-    let (ones_from, ones_to) = ones_around(ws, at + 1, b, from, to);
-    if (x >> (t - 1)) & 1 == 0 {
-        let from = from.saturating_sub(ones_from);
-        let to = to.saturating_sub(ones_to);
-        return below(ws, at + (2 * b + 2), b, t - 1, from, to, x, found);
+
+    /// How many of the numbers of a stretch are below `x` by their lowest bits.
+    fn found_below(&self, memory: &[u64], mut from: usize, mut to: usize, x: u32) -> usize
+        requires { InReach self.now memory.now × (from ≤ 64 * self.now.words) × (to ≤ 64 * self.now.words) }
+        ensures { (cs : List ℕ) → length cs ≤ 64 * self.now.words → between self.now.at (ends self.now.words self.now.bits self.now.at) memory.now ≡ Levels self.now.words self.now.bits cs → from ≤ to → to ≤ length cs → count_less self.now.bits x (between from to cs) < 2 ^ 64 → result ≡ count_less self.now.bits x (between from to cs) }
+    {
+        let mut span = *self;
+        let mut found = 0usize;
+        while span.bits > 0 {
+            let (next_from, next_to, more) = span.descend(memory, from, to, x);
+            found = found.saturating_add(more);
+            from = next_from;
+            to = next_to;
+            span = span.below();
+        }
+        found
     }
-    let found = found.saturating_add(zeros_within(from, to, ones_from, ones_to));
-    let zeros = ws[at] as usize;
-    let from = among_ones(zeros, ones_from, 64 * b);
-    let to = among_ones(zeros, ones_to, 64 * b);
-    below(ws, at + (2 * b + 2), b, t - 1, from, to, x, found)
 }
 
 impl Layout {
@@ -72,8 +77,6 @@ impl Layout {
         if self.end() > memory.len() || from > self.count || to > self.count {
             return 0;
         }
-        below(
-            memory, self.start, self.words, self.bits, from, to, bound, 0,
-        )
+        self.span().found_below(memory, from, to, bound)
     }
 }

@@ -4,12 +4,13 @@
 mod arranging;
 mod checking;
 mod counting;
+mod every;
 mod layout;
 mod partition;
 mod planes;
 mod sizes;
+mod span;
 mod storing;
 mod streams;
-mod words;
 
 pub use layout::Layout;

@@ -1,12 +1,12 @@
 ghost use Rattle.std.specs.Prelude.{◌≡◌, ℕ, ◌+◌, ◌*◌, ◌/◌, ◌%◌, ◌^◌, ◌<◌, ◌≤◌, length, slice_index};
 ghost use Rattle.gather.specs.Bits.{bit_of};
-ghost use Rattle.levels.specs.Layouts.{Reaches, end_of};
+ghost use Rattle.levels.specs.Layouts.{InReach, Reaches, end_of};
 ghost use Rattle.levels.specs.Planes.{Outside};
 ghost use Rattle.levels.specs.Spans.{ends, value_at};
 
 use super::layout::Layout;
+use super::span::Span;
 use super::streams::or_word;
-use super::words::wipe;
 
 /// One bit of each of 64 numbers, the first number's lowest.
 fn column_of_bits(numbers: &[u32; 64], digit: usize) -> u64
@@ -14,24 +14,27 @@ fn column_of_bits(numbers: &[u32; 64], digit: usize) -> u64
     ensures { (k : ℕ) → k < 64 → bit_of result k ≡ bit_of (slice_index numbers.now k) digit }
 {
     let mut word = 0;
-    for k in 0..64 {
-        word |= (((numbers[k] >> digit) & 1) as u64) << k;
+    for (k, number) in numbers.iter().enumerate() {
+        word |= u64::from((*number >> digit) & 1) << k;
     }
     word
 }
 
-/// Adds the `t` lowest bits of 64 numbers to one word of each of `t` planes.
-fn store(ws: &mut [u64], at: usize, b: usize, t: usize, word: usize, numbers: &[u32; 64])
-    requires { (ends b t at ≤ length ws.old) × ((ends b t at < 2 ^ 40) × ((word < b) × (t ≤ 32))) }
-    ensures here { (k : ℕ) → k < 64 → value_at b t ws.old at (64 * word + k) ≡ 0 → value_at b t ws.new at (64 * word + k) ≡ slice_index numbers.now k % 2 ^ t }
-    ensures kept { (k : ℕ) → k < 64 → slice_index numbers.now k ≡ 0 → value_at b t ws.new at (64 * word + k) ≡ value_at b t ws.old at (64 * word + k) }
-    ensures others { (q : ℕ) → (q / 64 ≡ word → ⊥) → q < 64 * b → value_at b t ws.new at q ≡ value_at b t ws.old at q }
-    ensures outside { Outside at (ends b t at) ws.old ws.new }
-{
-    if t > 0 {
-        let bits = column_of_bits(numbers, t - 1);
-        or_word(ws, at + 1 + word, bits);
-        store(ws, at + (2 * b + 2), b, t - 1, word, numbers);
+impl Span {
+    /// Adds the lowest bits of 64 numbers to one word of each plane.
+    #[tactic(auto, using(crate::proofs::Ends::ends_below, crate::proofs::Ends::room_for))]
+    fn store(&self, memory: &mut [u64], word: usize, numbers: &[u32; 64])
+        requires { InReach self.now memory.old × (word < self.now.words) }
+        ensures here { (k : ℕ) → k < 64 → value_at self.now.words self.now.bits memory.old self.now.at (64 * word + k) ≡ 0 → value_at self.now.words self.now.bits memory.new self.now.at (64 * word + k) ≡ slice_index numbers.now k % 2 ^ self.now.bits }
+        ensures kept { (k : ℕ) → k < 64 → slice_index numbers.now k ≡ 0 → value_at self.now.words self.now.bits memory.new self.now.at (64 * word + k) ≡ value_at self.now.words self.now.bits memory.old self.now.at (64 * word + k) }
+        ensures others { (q : ℕ) → (q / 64 ≡ word → ⊥) → q < 64 * self.now.words → value_at self.now.words self.now.bits memory.new self.now.at q ≡ value_at self.now.words self.now.bits memory.old self.now.at q }
+        ensures outside { Outside self.now.at (ends self.now.words self.now.bits self.now.at) memory.old memory.new }
+    {
+        if self.bits > 0 {
+            let bits = column_of_bits(numbers, self.bits - 1);
+            or_word(memory, self.at + 1 + word, bits);
+            self.below().store(memory, word, numbers);
+        }
     }
 }
 
@@ -43,7 +46,7 @@ impl Layout {
     {
         let end = self.end();
         if end <= memory.len() {
-            wipe(memory, self.start, end - self.start);
+            memory[self.start..end].fill(0);
         }
     }
 
@@ -56,7 +59,7 @@ impl Layout {
         ensures outside { Outside self.now.start (end_of self.now) memory.old memory.new }
     {
         if self.end() <= memory.len() && word < self.words {
-            store(memory, self.start, self.words, self.bits, word, numbers);
+            self.span().store(memory, word, numbers);
         }
     }
 }

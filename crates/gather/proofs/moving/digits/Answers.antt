@@ -1,20 +1,25 @@
-use Rattle.gather.proofs.Moves.{first_counts, next_counts, digit_of}
+use Rattle.std.proofs.Common.{inr, refl, ◌∙◌, length-set, arith}
+use Rattle.gather.specs.Gathered.{Along}
+use Rattle.gather.proofs.Moves.{first_counts, first_moved, next_counts, digit_of}
+use Rattle.gather.proofs.Parts.{set_more}
 use Rattle.gather.proofs.moving.digits.Goals as goal
 
-pub returns : goal.returns
-returns c =
-    let s = c.args.s in
-    let k0 = first_counts s c.unset-g0.result c.unset-g0.ensures.first c.unset-g0.ensures.others in
-    let k1 = next_counts c.unset-g0.result c.parity-d0.result c.lacks-g1.result c.parity-d0.ensures c.lacks-g1.ensures s 0 k0 in
-    let k2 = next_counts c.lacks-g1.result c.parity-d1.result c.lacks-g2.result c.parity-d1.ensures c.lacks-g2.ensures s 1 k1 in
-    let k3 = next_counts c.lacks-g2.result c.parity-d2.result c.lacks-g3.result c.parity-d2.ensures c.lacks-g3.ensures s 2 k2 in
-    let k4 = next_counts c.lacks-g3.result c.parity-d3.result c.lacks-g4.result c.parity-d3.ensures c.lacks-g4.ensures s 3 k3 in
-    let k5 = next_counts c.lacks-g4.result c.parity-d4.result c.lacks-g5.result c.parity-d4.ensures c.lacks-g5.ensures s 4 k4 in
-    record {
-      d0 = digit_of c.unset-g0.result c.parity-d0.result s 0 c.parity-d0.ensures k0;
-      d1 = digit_of c.lacks-g1.result c.parity-d1.result s 1 c.parity-d1.ensures k1;
-      d2 = digit_of c.lacks-g2.result c.parity-d2.result s 2 c.parity-d2.ensures k2;
-      d3 = digit_of c.lacks-g3.result c.parity-d3.result s 3 c.parity-d3.ensures k3;
-      d4 = digit_of c.lacks-g4.result c.parity-d4.result s 4 c.parity-d4.ensures k4;
-      d5 = digit_of c.lacks-g5.result c.parity-d5.result s 5 c.parity-d5.ensures k5;
-    }
+pub loop-digit-init : goal.loop-digit-init
+loop-digit-init c = (
+  first_counts c.args.selected c.unset-gaps.result c.unset-gaps.ensures.first c.unset-gaps.ensures.others,
+  λ k h. absurd (omega arith),
+  refl,
+)
+
+pub loop-digit-preserved : goal.loop-digit-preserved
+loop-digit-preserved c =
+    let s = c.args.selected in
+    let i = c.loop-digit.digit-index in
+    let g = c.loop-digit.gaps in
+    let d = c.parity-odd.result in
+    let counts = c.loop-digit.invariant.0 in (
+      next_counts g d c.lacks-gaps.result c.parity-odd.ensures c.lacks-gaps.ensures s i counts,
+      set_more (Along s 0) c.loop-digit.digit-items i c.shared.result (omega (arith, c.loop-digit.invariant.2)) c.loop-digit.invariant.1
+          (d, (digit_of g d s i c.parity-odd.ensures counts, first_moved s d c.shared.result (inr c.ranges.selected.fits) c.shared.ensures)),
+      length-set c.loop-digit.digit-items i c.shared.result ∙ c.loop-digit.invariant.2,
+    )

@@ -1,14 +1,25 @@
+use Rattle.std.proofs.Common.{◌≡◌, suc, ◌+◌, ◌*◌, ◌^◌, ap, add-one, pow-suc, subst, arith}
 use Rattle.gather.specs.Bits.{bit_of}
-use Rattle.gather.proofs.Parities.{window_one, window_two, window_all}
+use Rattle.gather.proofs.Moves.{places, few_places}
+use Rattle.gather.proofs.Parities.{Window, window_one, window_two, window_all}
 use Rattle.gather.proofs.words.parity.Goals as goal
 
-pub returns : goal.returns
-returns c =
+pub loop-i-init : goal.loop-i-init
+loop-i-init c = window_one c.args.x
+
+pub fold-odd-requires : goal.fold-odd-requires
+fold-odd-requires c = few_places c.loop-i.i c.loop-i-test.true
+
+pub loop-i-preserved : goal.loop-i-preserved
+loop-i-preserved c =
     let f = bit_of c.args.x in
-    let a = window_two f 1 c.args.x c.fold-a.result (window_one c.args.x) c.fold-a.ensures.low c.fold-a.ensures.high in
-    let b = window_two f 2 c.fold-a.result c.fold-b.result a c.fold-b.ensures.low c.fold-b.ensures.high in
-    let d = window_two f 4 c.fold-b.result c.fold-c.result b c.fold-c.ensures.low c.fold-c.ensures.high in
-    let e = window_two f 8 c.fold-c.result c.fold-d.result d c.fold-d.ensures.low c.fold-d.ensures.high in
-    let g = window_two f 16 c.fold-d.result c.fold-e.result e c.fold-e.ensures.low c.fold-e.ensures.high in
-    let h = window_two f 32 c.fold-e.result c.fold.result g c.fold.ensures.low c.fold.ensures.high in
-    λ p l. window_all f c.fold.result p h l
+    let k = 2 ^ c.loop-i.i in
+    let e = places c.loop-i.i c.loop-i-test.true in
+    let p : 2 ^ suc c.loop-i.i ≡ k * 2 = pow-suc 2 c.loop-i.i in
+    let q = ap (λ x. 2 ^ x) (add-one c.loop-i.i) in
+    let twice : k + k ≡ 2 ^ (c.loop-i.i + 1) = omega arith in
+    subst (λ n. Window f n c.fold-odd.result) twice
+    (window_two f k c.loop-i.odd c.fold-odd.result c.loop-i.invariant (rw e at c.fold-odd.ensures.low) (rw e at c.fold-odd.ensures.high))
+
+pub returns : goal.returns
+returns c = let e : c.loop-i.i ≡ 6 = omega arith in λ p h. window_all (bit_of c.args.x) c.loop-i.odd p (rw e at c.loop-i.invariant) h

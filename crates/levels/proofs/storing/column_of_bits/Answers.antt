@@ -1,15 +1,10 @@
-use Rattle.std.proofs.Common.{◌≡◌, ℕ, ◌*◌, ◌/◌, ◌%◌, ◌^◌, ◌<◌, get_or, sym, ◌∙◌, subst, ⊎_elim, arith}
-use lib.Bits.{bit_and, bit_or}
-use Rattle.std.proofs.lemmas.Nat.{and_mask}
+use Rattle.std.proofs.Common.{◌≡◌, ◌*◌, ◌%◌, ◌^◌, ◌<◌, get_or, sym, ◌∙◌, subst, ⊎_elim, arith}
+use lib.Bits.{bit_or}
 use Rattle.std.proofs.lemmas.Bool.{cases_eq}
 use Rattle.gather.specs.Bits.{bit_of}
-use Rattle.gather.proofs.Bitwise.{bit_lt}
-use Rattle.levels.proofs.Puts.{bit_none, join_above, join_below, join_here}
+use Rattle.gather.proofs.Bitwise.{bit_is, bit_lt, bit_none}
+use Rattle.levels.proofs.Puts.{join_above, join_below, join_here}
 use Rattle.levels.proofs.storing.column_of_bits.Goals as goal
-
-bit_is : (number s : ℕ) → bit_and (number / 2 ^ s) 1 ≡ bit_of number s
-unfolding bit_of
-bit_is number s = and_mask (number / 2 ^ s) 1
 
 pub loop-k-init : goal.loop-k-init
 loop-k-init c = (λ j h. absurd (omega arith), λ j h. bit_none j)
@@ -18,9 +13,9 @@ pub loop-k-preserved : goal.loop-k-preserved
 loop-k-preserved c =
     let k = c.loop-k.k in
     let x = get_or c.args.numbers.now k 0 in
-    let bit = bit_and (x / 2 ^ c.args.digit) 1 in
-    let e = bit_is x c.args.digit in
-    let two : bit < 2 = omega (arith, bit_lt x c.args.digit) in (
+    let bit = c.from.result in
+    let e : bit ≡ bit_of x c.args.digit = c.from.ensures ∙ bit_is x c.args.digit in
+    let two : bit < 2 = omega (arith, e, bit_lt x c.args.digit) in (
       λ j h.
           ⊎_elim
           (λ (q : j ≡ k).

@@ -18,4 +18,5 @@ returns c cs reach has small below l h =
     let e = get_or-between cs from to q 0 (omega arith) in
     let s = small (from + q) (omega arith) in
     omega arith in
-    c.below.ensures cs (omega arith) has.1 l (omega arith) (omega arith) ∙ omega (arith, count_whole layout.bits c.args.bound part below each)
+    let q = c.span.ensures in
+    rw (q.at, q.words, q.bits) at c.found_below.ensures cs (omega arith) has.1 l (omega arith) (omega arith) ∙ count_whole layout.bits c.args.bound part below each
