@@ -3,7 +3,7 @@ use Rattle.std.proofs.Common.{◌≡◌, ℕ, zero, suc, ◌+◌, ◌-◌, ◌*�
 use Rattle.std.proofs.lemmas.Nat.{mul-add-lt, div-mul-add, mod-mul-add}
 use Rattle.std.proofs.lemmas.Bool.{cases_order, false≢true, lt-ltb, ltb-true}
 use Rattle.grid.specs.Lattice.{Adjacent, Near, apart, lattice_sparsity, neighbours}
-use Rattle.grid.specs.Rows.{row-at}
+use Rattle.grid.specs.Rows.{row_is}
 
 -- c stands at some place of a list that is read with the default d
 abbrev Held : ℕ → ℕ → List ℕ → Type 0
@@ -126,4 +126,4 @@ module _ (p q x y : ℕ) (across : x < p) (down : y < q) where
 pub adjacent : (p q : ℕ) → Adjacent p q (lattice_sparsity p q)
 adjacent p q x y c across down =
     let l : y * p + x < p * q = mul-add-lt y p x q down across in
-    rw (row-at p q (y * p + x) l) (near p q x y across down (p * q) c, held p q x y across down (p * q) c)
+    rw (row_is p q (y * p + x) l) (near p q x y across down (p * q) c, held p q x y across down (p * q) c)

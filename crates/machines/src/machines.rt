@@ -4,6 +4,8 @@ ghost use Rattle.std.specs.Prelude.{◌≤◌, length};
 #[derive(Drop)]
 pub struct Machines {
     pub(crate) weights: Vec<u32>,
+    // As it is: callers bring starts and slowness as two lists, which may differ in length, and `new` allocates nothing; a
+    // list of pairs would ask more of them.
     pub(crate) starts: Vec<u32>,
     pub(crate) slowness: Vec<u8>,
     ghost few: { length weights.items ≤ 1000000 },

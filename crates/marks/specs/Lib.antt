@@ -1,3 +1,4 @@
 pub mod Seen
 pub mod Meanings
 pub mod Nonlocals
+pub mod Counts

@@ -9,3 +9,7 @@ marked_sparsity sparsity m = record { rows = (sparsity m.pattern).rows; column_c
 -- there are as many columns as rows
 abbrev pub Square : Sparsity → Type 0
 Square s = row_count s ≡ s.column_count
+
+-- a pattern with its marks, before and after: it means the same
+abbrev pub SamePattern : {P : Type 0} → Marked P → Marked P → Type 0
+SamePattern before after = (after.pattern ≡ before.pattern) × (after.width ≡ before.width)

@@ -1,7 +1,8 @@
-ghost use Rattle.std.specs.Prelude.{◌≡◌, ℕ, ◌<◌, ◌≤◌, not, ◌&&◌, ◌||◌, ◌==◌, nat_lt};
-ghost use Rattle.marks.specs.Meanings.{marked_sparsity};
+ghost use Rattle.std.specs.Prelude.{◌≡◌, ℕ, ◌<◌, ◌≤◌, Bool, true, not, ◌&&◌, ◌||◌, ◌==◌, nat_lt};
+ghost use Rattle.marks.specs.Counts.{Counted};
+ghost use Rattle.marks.specs.Meanings.{SamePattern, marked_sparsity};
 ghost use Rattle.marks.specs.Seen.{covered, seen};
-ghost use Rattle.pattern.specs.Columns.{among, columns_and_rows, columns_in, distinct_columns, row_number, size_below};
+ghost use Rattle.pattern.specs.Columns.{among, columns_and_rows, columns_in, distinct_columns, row_number};
 ghost use Rattle.pattern.specs.Sparsity.{row_at};
 
 use super::memory::{Marked, Marks};
@@ -17,81 +18,78 @@ pub(crate) fn sees(marks: &mut Marks, width: u32, column: u32) -> bool
     column < width && marks.first(column)
 }
 
-/// Goes on with a count over the columns of one row, from the columns counted so far.
-fn count_row<P: Pattern>(pattern: &P, marks: &mut Marks, width: u32, row: u32, counted: u32) -> u32
-    requires enough { width ≤ covered marks.old }
-    requires before { counted ≡ size_below width (seen marks.old) }
-    ensures value { result ≡ size_below width (seen marks.new) }
-    ensures after { (c : ℕ) → c < width → seen marks.new c ≡ (seen marks.old c || among (row_at (P.sparsity pattern.now) row) c) }
-    ensures same { covered marks.new ≡ covered marks.old }
-{
-    let mut total = counted;
-    for place in 0..pattern.entry_count(row) {
-        let fresh = sees(marks, width, pattern.column(row, place));
-        total += fresh as u32;
-    }
-    total
+/// How a count goes over one row of a pattern, and which columns it is about.
+pub(crate) trait RowCount<P: Pattern> {
+    /// Which columns the count is about.
+    ghost about: { Self → ℕ → Bool };
+
+    /// Marks the columns of a row, and says how many of those that the count is about it had not seen.
+    fn count_row(&self, marked: &mut Marked<P>, row: u32) -> u32
+        ensures { Counted (about self.now) (among (row_at (P.sparsity marked.old.pattern) row)) marked.old marked.new result };
 }
 
-/// Goes on with a count over the columns of the rows from `from` up to, not including, `to`.
-fn count_rows<P: Pattern>(
-    pattern: &P,
-    marks: &mut Marks,
-    width: u32,
-    from: u32,
-    to: u32,
-    counted: u32,
-) -> u32
-    requires enough { width ≤ covered marks.old }
-    requires before { counted ≡ size_below width (seen marks.old) }
-    ensures value { result ≡ size_below width (seen marks.new) }
-    ensures after { (c : ℕ) → c < width → seen marks.new c ≡ (seen marks.old c || among (columns_in (P.sparsity pattern.now) from to) c) }
-    ensures same { covered marks.new ≡ covered marks.old }
-{
-    let end = to.min(pattern.row_count());
-    let mut total = counted;
-    for row in from.min(end)..end {
-        total = count_row(pattern, marks, width, row, total);
-    }
-    total
-}
+/// A count of each column, over the places of a row.
+#[derive(Drop)]
+struct EachColumn;
 
-/// Counts the row numbers from `from` up to, not including, `to` that are below `width`.
-fn count_numbers(marks: &mut Marks, width: u32, from: u32, to: u32, counted: u32) -> u32
-    requires enough { width ≤ covered marks.old }
-    requires before { counted ≡ size_below width (seen marks.old) }
-    ensures value { result ≡ size_below width (seen marks.new) }
-    ensures after { (c : ℕ) → c < width → seen marks.new c ≡ (seen marks.old c || row_number from to c) }
-    ensures same { covered marks.new ≡ covered marks.old }
-{
-    let end = to.min(width);
-    let mut total = counted;
-    for row in from.min(end)..end {
-        let fresh = sees(marks, width, row);
-        total += fresh as u32;
+impl<P: Pattern> RowCount<P> for EachColumn {
+    ghost about = { λ _ _. true };
+
+    fn count_row(&self, marked: &mut Marked<P>, row: u32) -> u32 {
+        let width = marked.width;
+        let mut new = 0;
+        // As it is: a pattern is asked place by place, and has no list of a row to go over.
+        for place in 0..marked.pattern.entry_count(row) {
+            let column = marked.pattern.column(row, place);
+            new += u32::from(sees(&mut marked.marks, width, column));
+        }
+        new
     }
-    total
 }
 
 impl<P: Pattern> Marked<P> {
+    /// Marks the columns of the rows from `from` up to, not including, `to`, and says how many of those that the count is
+    /// about it had not seen.
+    pub(crate) fn count_rows<C: RowCount<P>>(&mut self, count: &C, from: u32, to: u32) -> u32
+        ensures { Counted (C.about count.now) (among (columns_in (P.sparsity self.old.pattern) from to)) self.old self.new result }
+    {
+        let end = to.min(self.pattern.row_count());
+        let mut new = 0;
+        for row in from.min(end)..end {
+            new += count.count_row(self, row);
+        }
+        new
+    }
+
+    /// Marks the row numbers from `from` up to, not including, `to` that are columns, and says how many a count of each
+    /// column had not seen.
+    fn count_numbers(&mut self, from: u32, to: u32) -> u32
+        ensures { Counted (λ _. true) (row_number from to) self.old self.new result }
+    {
+        let width = self.width;
+        let end = to.min(width);
+        let mut new = 0;
+        for row in from.min(end)..end {
+            new += u32::from(sees(&mut self.marks, width, row));
+        }
+        new
+    }
+
     /// How many distinct columns the rows from `from` up to, not including, `to` have.
     pub fn distinct(&mut self, from: u32, to: u32) -> u32
         ensures value { result ≡ distinct_columns (marked_sparsity P.sparsity self.old) from to }
-        ensures same { (self.new.pattern ≡ self.old.pattern) × (self.new.width ≡ self.old.width) }
+        ensures same { SamePattern self.old self.new }
     {
-        let width = self.width;
         self.marks.begin();
-        count_rows(&self.pattern, &mut self.marks, width, from, to, 0)
+        self.count_rows(&EachColumn, from, to)
     }
 
     /// How large the union of those columns and of the numbers of those rows is.
     pub fn union(&mut self, from: u32, to: u32) -> u32
         ensures value { result ≡ columns_and_rows (marked_sparsity P.sparsity self.old) from to }
-        ensures same { (self.new.pattern ≡ self.old.pattern) × (self.new.width ≡ self.old.width) }
+        ensures same { SamePattern self.old self.new }
     {
-        let width = self.width;
         self.marks.begin();
-        let counted = count_numbers(&mut self.marks, width, from, to, 0);
-        count_rows(&self.pattern, &mut self.marks, width, from, to, counted)
+        self.count_numbers(from, to) + self.count_rows(&EachColumn, from, to)
     }
 }

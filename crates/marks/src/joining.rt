@@ -9,12 +9,12 @@ use pattern::Pattern;
 impl<P: Pattern> Marked<P> {
     /// The pattern with a mark for each of its columns. Only want of memory is an error, and there is none where the marks
     /// that are brought suffice.
-    pub fn new(pattern: P, marks: Marks) -> Result<Marked<P>, Unmarked<P>>
+    pub fn new(pattern: P, mut marks: Marks) -> Result<Marked<P>, Unmarked<P>>
         ensures cases { elim result [ Ok m ↦ (marked_sparsity P.sparsity m ≡ P.sparsity pattern) × (m.pattern ≡ pattern) | Err u ↦ (u.pattern ≡ pattern) × SameMarks marks u.marks ] }
         ensures succeeds { (P.sparsity pattern).column_count ≤ covered marks → is_ok result ≡ true }
     {
-        let mut marks = marks;
         let width = pattern.column_count();
+        // As it is: both arms move the pattern and the marks, which one closure of a method could not.
         match marks.cover(width) {
             Ok(()) => Ok(Marked {
                 pattern,

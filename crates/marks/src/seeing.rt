@@ -29,6 +29,7 @@ impl Marks {
     }
 
     /// Begins another count, which has seen no column.
+    // As it is: that there are as many marks afterwards is said of two moments, here and below, so no type can hold it.
     pub(crate) fn begin(&mut self)
         ensures none { (c : ℕ) → c < covered self.new → seen self.new c ≡ false }
         ensures same { covered self.new ≡ covered self.old }

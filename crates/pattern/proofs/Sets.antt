@@ -2,8 +2,10 @@
 use Rattle.std.proofs.Common.{◌≡◌, ℕ, zero, suc, ◌+◌, ◌-◌, ◌<◌, ◌≤◌, min, Bool, true, false, cond, ◌||◌, eqb, List, [], ◌∷◌, ◌++◌, take, drop, sym, refl, ap, ◌∙◌, subst, ⊎_elim, arith}
 use Rattle.std.specs.List.{between, flat_map}
 use Rattle.std.proofs.lemmas.List.Edits.{between_more, between_none}
-use Rattle.std.proofs.lemmas.List.{append-nil, append_assoc, take-append-drop, drop-drop, drop-take, take-take}
-use Rattle.std.proofs.lemmas.Bool.{cases_lt, cases_eq, or_left, or_right, false≢true}
+use Rattle.std.proofs.lemmas.List.{append-nil, take-append-drop, drop-drop, drop-take, take-take}
+use Rattle.std.proofs.lemmas.Grind.{flat_map-append}
+use Rattle.std.proofs.Math.Bool.{or_assoc, or-false}
+use Rattle.std.proofs.lemmas.Bool.{cond_both, cases_eq, or_left, or_right}
 use Rattle.pattern.specs.Sparsity.{Sparsity, row_at, row_count}
 use Rattle.pattern.specs.Columns.{columns_in, among, size_below}
 use Rattle.pattern.proofs.Spans.{between_clipped}
@@ -18,11 +20,7 @@ size_same (suc n) p q h =
 
 pub size_le : (n : ℕ) (p : ℕ → Bool) → size_below n p ≤ n
 size_le zero p = omega arith
-size_le (suc n) p = omega (arith, size_le n p, one_or_none (p n))
-  where
-    one_or_none : (b : Bool) → cond {A = ℕ} b 1 0 ≤ 1
-    one_or_none true = omega arith
-    one_or_none false = omega arith
+size_le (suc n) p = cond_both (p n) 1 0 (λ k. size_below n p + k ≤ suc n) (λ e. omega (arith, size_le n p)) (λ e. omega (arith, size_le n p))
 
 pub size_none : (n : ℕ) → size_below n (λ c. false) ≡ 0
 size_none zero = refl
@@ -30,20 +28,15 @@ size_none (suc n) = omega (arith, size_none n)
 
 pub size_grows : (n : ℕ) (p q : ℕ → Bool) → ((c : ℕ) → c < n → p c ≡ true → q c ≡ true) → size_below n p ≤ size_below n q
 size_grows zero p q h = omega arith
-size_grows (suc n) p q h = omega (arith, size_grows n p q (λ c l. h c (omega arith)), here (p n) (q n) (h n (omega arith)))
+size_grows (suc n) p q h = omega (arith, size_grows n p q (λ c l. h c (omega arith)), here)
   where
-    here : (x y : Bool) → (x ≡ true → y ≡ true) → cond {A = ℕ} x 1 0 ≤ cond {A = ℕ} y 1 0
-    here true true k = omega arith
-    here true false k = absurd (false≢true (k refl))
-    here false y k = omega arith
+    here : cond {A = ℕ} (p n) 1 0 ≤ cond {A = ℕ} (q n) 1 0
+    here = cond_both (p n) 1 0 (λ k. k ≤ cond (q n) 1 0) (λ e. rw (h n (omega arith) e) (omega arith)) (λ e. omega arith)
 
 -- one number more
 pub size_more : (n x : ℕ) (p q : ℕ → Bool) → x < n → p x ≡ false → q x ≡ true → ((c : ℕ) → c < n → (c ≡ x → ⊥) → q c ≡ p c)
     → size_below n q ≡ size_below n p + 1
-size_more zero x p q l before after other = absurd (none l)
-  where
-    none : x < 0 → ⊥
-    none h = omega arith
+size_more zero x p q l before after other = absurd (omega arith)
 size_more (suc n) x p q l before after other =
     ⊎_elim here (λ ne. there ne (λ k. size_more n x p q k before after (λ c h. other c (omega arith)))) (cases_eq n x)
   where
@@ -57,34 +50,14 @@ size_more (suc n) x p q l before after other =
     there : (n ≡ x → ⊥) → (x < n → size_below n q ≡ size_below n p + 1) → size_below (suc n) q ≡ size_below (suc n) p + 1
     there ne rest =
         let e : q n ≡ p n = other n (omega arith) ne in
-        let s : size_below n q ≡ size_below n p + 1 = rest below in
-        rw e (omega (arith, s))
-      where
-        below : x < n
-        below = ⊎_elim (λ k. k) (λ k. absurd (ne (omega arith))) (cases_lt x n)
-
--- membership
-
-or_assoc : (a b c : Bool) → ((a || b) || c) ≡ (a || (b || c))
-or_assoc true b c = refl
-or_assoc false b c = refl
-
-or_false : (a : Bool) → (a || false) ≡ a
-or_false true = refl
-or_false false = refl
+        rw e (omega (arith, rest (omega (arith, ne))))
 
 pub among_append : (xs ys : List ℕ) (c : ℕ) → among (xs ++ ys) c ≡ (among xs c || among ys c)
 among_append [] ys c = refl
 among_append (x ∷ xs) ys c = ap (λ t. eqb x c || t) (among_append xs ys c) ∙ sym (or_assoc (eqb x c) (among xs c) (among ys c))
 
 pub among_push : (xs : List ℕ) (x c : ℕ) → among (xs ++ x ∷ []) c ≡ (among xs c || eqb x c)
-among_push xs x c = among_append xs (x ∷ []) c ∙ ap (λ t. among xs c || t) (or_false (eqb x c))
-
--- runs of rows
-
-joined_append : (xs ys : List (List ℕ)) → flat_map (λ row. row) (xs ++ ys) ≡ flat_map (λ row. row) xs ++ flat_map (λ row. row) ys
-joined_append [] ys = refl
-joined_append (x ∷ xs) ys = ap (λ t. x ++ t) (joined_append xs ys) ∙ sym (append_assoc x (flat_map (λ row. row) xs) (flat_map (λ row. row) ys))
+among_push xs x c = among_append xs (x ∷ []) c ∙ ap (λ t. among xs c || t) (or-false (eqb x c))
 
 -- a run is its front and its rest
 between_split : {X : Type 0} (xs : List X) (a b c : ℕ) → a ≤ b → b ≤ c → between a c xs ≡ between a b xs ++ between b c xs
@@ -106,7 +79,7 @@ module _ (s : Sparsity) where
   pub columns_more : (a i : ℕ) → a ≤ i → i < row_count s → columns_in s a (i + 1) ≡ columns_in s a i ++ row_at s i
   columns_more a i h l =
       ap (flat_map (λ row. row)) (between_more s.rows a i [] h l)
-      ∙ joined_append (between a i s.rows) (row_at s i ∷ [])
+      ∙ flat_map-append (λ row. row) (between a i s.rows) (row_at s i ∷ [])
       ∙ ap (λ t. columns_in s a i ++ t) (append-nil (row_at s i))
 
   pub columns_clipped : (a b : ℕ) → columns_in s (min a (min b (row_count s))) (min b (row_count s)) ≡ columns_in s a b
@@ -114,7 +87,7 @@ module _ (s : Sparsity) where
 
   columns_split : (a b c : ℕ) → a ≤ b → b ≤ c → columns_in s a c ≡ columns_in s a b ++ columns_in s b c
   columns_split a b c h l =
-      ap (flat_map (λ row. row)) (between_split s.rows a b c h l) ∙ joined_append (between a b s.rows) (between b c s.rows)
+      ap (flat_map (λ row. row)) (between_split s.rows a b c h l) ∙ flat_map-append (λ row. row) (between a b s.rows) (between b c s.rows)
 
   -- rows around others have their columns
   pub columns_grow : (a b a' b' c : ℕ) → a' ≤ a → a ≤ b → b ≤ b' → among (columns_in s a b) c ≡ true → among (columns_in s a' b') c ≡ true

@@ -1,9 +1,10 @@
 -- Runs of a list, clipped to its length and summed, and the entries of runs of rows.
-use Rattle.std.proofs.Common.{◌≡◌, ℕ, ◌+◌, ◌-◌, ◌<◌, ◌≤◌, min, List, [], length, get_or, take, drop, sum, sym, ap, ◌∙◌, subst, ⊎_elim, arith, length-drop}
-use Rattle.std.specs.List.{between}
-use Rattle.std.proofs.lemmas.List.{take_all, take-take, drop_all, take-append-drop, drop-take, length-map, get_or-map}
+use Rattle.std.proofs.Common.{◌≡◌, ℕ, ◌+◌, ◌-◌, ◌<◌, ◌≤◌, min, List, [], length, map, get_or, take, drop, sum, sym, refl, zero, suc, add-zero, add-one, ap, ◌∙◌, subst, ⊎_elim, arith, length-drop}
+use Rattle.std.specs.List.{between, range_with_len}
+use Rattle.std.proofs.lemmas.List.{nil_from_length, length-take, take_all, take-take, take-append-drop, drop-take, length-map, get_or-map}
 use Rattle.std.proofs.lemmas.List.Sums.{sum_by-append, sum_by_push, sum_by-take-le, sum_by-take-drop}
 use Rattle.std.proofs.lemmas.List.Edits.{between_more, between_none}
+use Rattle.std.proofs.lemmas.List.FromFn.{sum_by-map-range_with_len_more}
 use Rattle.std.proofs.lemmas.Bool.{cases_lt}
 use Rattle.pattern.specs.Sparsity.{Sparsity, Lawful, row_count, row_counts, entry_count, entries_between}
 
@@ -28,13 +29,8 @@ between_clipped xs a b = ⊎_elim (λ l. ⊎_elim (λ k. both l k) (λ k. far l 
     none : min b (length xs) ≤ a → between (min a (min b (length xs))) (min b (length xs)) xs ≡ between a b xs
     none l =
         let q : min a (min b (length xs)) ≡ min b (length xs) = omega arith in
-        rw q (between_none xs (min b (length xs)) ∙ sym (past l))
-      where
-        past : min b (length xs) ≤ a → between a b xs ≡ []
-        past l = ⊎_elim
-            (λ k. let z : b - a ≡ 0 = omega arith in rw z)
-            (λ k. let e = drop_all a xs (omega arith) in rw e (take_all (b - a) [] (omega arith)))
-            (cases_lt b (a + 1))
+        let d = length-drop a xs in
+        rw (q, between_none xs (min b (length xs))) (sym (nil_from_length (between a b xs) (omega (arith, length-take (b - a) (drop a xs)))))
 
 -- a sum up to b is the sum up to a and the sum from a to b
 pub sum_between : (xs : List ℕ) (a b : ℕ) → a ≤ b → sum (take b xs) ≡ sum (take a xs) + sum (between a b xs)
@@ -74,6 +70,25 @@ module _ (s : Sparsity) where
   entries_clipped a b =
       subst (λ n. sum (between (min a (min b n)) (min b n) (row_counts s)) ≡ entries_between s a b) length_counts
       (ap sum (between_clipped (row_counts s) a b))
+
+  -- the entries of n rows, row after row
+  entries_listed : (a n : ℕ) → a + n ≤ row_count s → sum (map (entry_count s) (range_with_len a n)) ≡ entries_between s a (a + n)
+  entries_listed a zero h = rw (add-zero, between_none (row_counts s) a)
+  entries_listed a (suc n) h =
+      let f = entry_count s in
+      let e : a + n + 1 ≡ a + (n + 1) = omega arith in
+      let t : sum (map f (range_with_len a (n + 1))) ≡ sum (map f (range_with_len a n)) + f (a + n) =
+      sum_by-map-range_with_len_more (λ x. x) f a n (a + n) refl in
+      let u : sum (map f (range_with_len a (n + 1))) ≡ entries_between s a (a + (n + 1)) =
+      rw (← e) (omega (arith, t, entries_listed a n (omega arith), entries_more a (a + n) (omega arith) (omega arith))) in
+      subst (λ k. sum (map f (range_with_len a k)) ≡ entries_between s a (a + k)) (add-one n) u
+
+  -- the same of the rows from `start` up to `end`, to which a and b are clipped
+  pub entries_summed : (a b end start : ℕ) → end ≡ min b (row_count s) → start ≡ min a end
+      → sum (map (entry_count s) (range_with_len start (end - start))) ≡ entries_between s a b
+  entries_summed a b end start e f =
+      let whole : start + (end - start) ≡ end = omega arith in
+      entries_listed start (end - start) (omega arith) ∙ rw (whole, f, e) (entries_clipped a b)
 
   pub entries_few : Lawful s → (a b : ℕ) → entries_between s a b ≤ 16777216
   entries_few h a b = omega (arith, sum_between_le (row_counts s) a b, h.entries)

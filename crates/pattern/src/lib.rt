@@ -30,11 +30,7 @@ pub trait Pattern {
         ensures { result ≡ entries_between (sparsity self.now) from to }
     {
         let end = to.min(self.row_count());
-        let mut entries = 0;
-        for row in from.min(end)..end {
-            entries += self.entry_count(row);
-        }
-        entries
+        (from.min(end)..end).map(|row| self.entry_count(row)).sum()
     }
 
     /// The sizes are within the limits, and each row's columns rise and are in range.

@@ -6,4 +6,4 @@ use Rattle.stored.specs.declared.lists.Stored.{Stored}
 use Rattle.stored.specs.Rows.{lawful}
 
 pub checked_lawful : (s : Stored) → Lawful (sparsity_of s)
-checked_lawful s = lawful s.width (vec_items s.starts) (vec_items s.columns) s.framed s.climbing s.sized s.ordered
+checked_lawful s = lawful s.lists.width (vec_items s.lists.starts) (vec_items s.lists.columns) s.framed s.climbing s.sized s.ordered

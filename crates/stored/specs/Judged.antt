@@ -13,7 +13,10 @@ pub record Judged (n : ℕ) (starts columns : List ℕ) (o : Option Refusal) : T
   pub column : (o ≡ Some Column) ↔ (Shaped n starts columns × (Ordered (csr n starts columns) → ⊥))
   pub passed : (o ≡ None) ↔ (Shaped n starts columns × Ordered (csr n starts columns))
 
--- the same of the pattern that a caller brings
+-- the rule of the sizes and the row starts, and the check's answer, of the pattern that a caller brings
+abbrev pub ShapedOf : Unchecked → Type 0
+ShapedOf u = Shaped u.width (vec_items u.starts) (vec_items u.columns)
+
 abbrev pub JudgedOf : Unchecked → Option Refusal → Type 0
 JudgedOf u = Judged u.width (vec_items u.starts) (vec_items u.columns)
 
@@ -23,10 +26,8 @@ brought_sparsity u = csr u.width (vec_items u.starts) (vec_items u.columns)
 
 -- what a checked pattern means
 abbrev pub sparsity_of : Stored → Sparsity
-sparsity_of s = csr s.width (vec_items s.starts) (vec_items s.columns)
+sparsity_of s = brought_sparsity s.lists
 
 -- a checked pattern that holds the lists of the brought one, the very same
-pub record Holds (u : Unchecked) (s : Stored) : Type 0 where
-  pub width : s.width ≡ u.width
-  pub starts : s.starts ≡ u.starts
-  pub columns : s.columns ≡ u.columns
+abbrev pub Holds : Unchecked → Stored → Type 0
+Holds u s = s.lists ≡ u

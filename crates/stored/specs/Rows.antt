@@ -2,12 +2,13 @@
 use Rattle.std.specs.Prelude.{◌≡◌, ℕ, zero, suc, ◌+◌, ◌-◌, ◌<◌, ◌≤◌, List, [], length, take, sum, slice_index, slice_index_or}
 use Rattle.std.proofs.Common.{sym, ap, subst, ◌∙◌, ⊎_elim, add-zero, le_refl, arith}
 use Rattle.std.specs.List.{between}
+use Rattle.std.specs.List.Sorted.{IsStrictlyIncreasing}
 use Rattle.std.proofs.lemmas.List.FromFn.{length-map-range_with_len, get_or-map-range_with_len}
 use Rattle.std.proofs.lemmas.List.Edits.{length-between, get_or-between}
-use Rattle.std.proofs.lemmas.List.{get_or_past, get_or_default, get_or-map, length-map, take_all}
+use Rattle.std.proofs.lemmas.List.{get_or_past, get_or-map, length-map, take_all}
 use Rattle.std.proofs.lemmas.List.Sums.{sum_by_more}
 use Rattle.std.proofs.lemmas.Bool.{cases_lt}
-use Rattle.pattern.specs.Sparsity.{Lawful, RowOrdered, Ordered, row_at, row_count, row_counts, entry_count, column_at, entries_between}
+use Rattle.pattern.specs.Sparsity.{Lawful, RowOrdered, Ordered, row_at, row_count, row_counts, entry_count, entries_between}
 use Rattle.pattern.proofs.Spans.{sum_between}
 use Rattle.stored.specs.Csr.{csr, csr_row, Sized, Framed, Climbing}
 
@@ -56,21 +57,13 @@ module _ (n : ℕ) (starts columns : List ℕ) (f : Framed starts columns) (up :
       rw (row_is n starts columns i h)
       (length-between columns (slice_index starts i) (slice_index starts (i + 1)) (start_le (i + 1) h))
 
-  pub column_in : (i place : ℕ) → i + 1 < length starts → place < slice_index starts (i + 1) - slice_index starts i
-      → slice_index starts i + place < length columns
-  column_in i place h l = omega (arith, start_le (i + 1) h)
-
-  pub column_is : (i place : ℕ) → i + 1 < length starts → place < slice_index starts (i + 1) - slice_index starts i
-      → slice_index columns (slice_index starts i + place) ≡ column_at (csr n starts columns) i place
-  column_is i place h l =
-      rw (row_is n starts columns i h)
-      (get_or_default columns (slice_index starts i + place) 0 n (column_in i place h l)
-      ∙ sym (get_or-between columns (slice_index starts i) (slice_index starts (i + 1)) place n (omega arith)))
-
-  pub column_past : (i place : ℕ) → i + 1 < length starts → slice_index starts (i + 1) - slice_index starts i ≤ place
-      → n ≡ column_at (csr n starts columns) i place
-  column_past i place h l =
-      sym (get_or_past (row_at (csr n starts columns) i) place n (omega (arith, count_is i h)))
+  -- no row has more entries than are listed
+  pub count_le : (i : ℕ) → entry_count (csr n starts columns) i ≤ length columns
+  count_le i =
+      ⊎_elim
+      (λ l. omega (arith, count_is i l, start_le (i + 1) l))
+      (λ l. rw (row_past n starts columns i l) (omega arith))
+      (cases_lt (i + 1) (length starts))
 
   -- the rows before row i have as many entries as start i says
   before : (i : ℕ) → i < length starts → sum (take i (row_counts (csr n starts columns))) ≡ slice_index starts i
@@ -108,51 +101,40 @@ module _ (n : ℕ) (starts columns : List ℕ) (f : Framed starts columns) (up :
     ordered = order;
   }
 
--- what a row's two starts say of its entries, for any row
-pub entries_at : (n : ℕ) (starts columns : List ℕ) (f : Framed starts columns) (up : Climbing starts) (i r : ℕ)
-    → (i + 1 < length starts → r ≡ slice_index starts (i + 1) - slice_index starts i) → (length starts ≤ i + 1 → r ≡ 0)
-    → r ≡ entry_count (csr n starts columns) i
-entries_at n starts columns f up i r within past =
-    ⊎_elim (λ l. within l ∙ sym (count_is n starts columns f up i l))
-    (λ l. past l ∙ sym (ap length (row_past n starts columns i l)))
-    (cases_lt (i + 1) (length starts))
+-- a list that begins with start i and the next one
+pub record Bounds (starts : List ℕ) (i : ℕ) (w : List ℕ) : Type 0 where
+  pub within : i + 1 < length starts
+  pub from : slice_index w 0 ≡ slice_index starts i
+  pub to : slice_index w 1 ≡ slice_index starts (i + 1)
 
--- what the same two starts say of a column of the row
-module _ (n : ℕ) (starts columns : List ℕ) (f : Framed starts columns) (up : Climbing starts) (i place r : ℕ)
-    (within : i + 1 < length starts → r ≡ slice_index starts (i + 1) - slice_index starts i) (past : length starts ≤ i + 1 → r ≡ 0) where
-  pub no_column : r ≤ place → n ≡ column_at (csr n starts columns) i place
-  no_column h =
-      sym (get_or_past (row_at (csr n starts columns) i) place n (omega (arith, entries_at n starts columns f up i r within past)))
+pub bounds_at : (starts : List ℕ) (i : ℕ) (w : List ℕ) → 2 ≤ length w → w ≡ between i (length starts) starts → length w + i ≡ length starts
+    → Bounds starts i w
+bounds_at starts i w two e l = record {
+  within = omega arith;
+  from = rw e (get_or-between starts i (length starts) 0 0 (omega arith) ∙ ap (λ k. slice_index starts k) (omega arith));
+  to = rw e (get_or-between starts i (length starts) 1 0 (omega arith));
+}
 
-  there : place < r → i + 1 < length starts
-  there h = ⊎_elim (λ l. l) (λ l. absurd (none (past l))) (cases_lt (i + 1) (length starts))
-    where
-      none : r ≡ 0 → ⊥
-      none e = omega arith
+-- the same of a window of two, where so many starts are left
+pub bounds_in : (starts : List ℕ) (left size : ℕ) (w : List ℕ) → size ≡ 2 → size ≤ left → left ≤ length starts
+    → ((k d : ℕ) → k < size → slice_index_or w k d ≡ slice_index_or starts (length starts - left + k) d) → Bounds starts (length starts - left) w
+bounds_in starts left size w two some l at = record {
+  within = omega arith;
+  from = at 0 0 (omega arith) ∙ ap (λ k. slice_index starts k) (omega arith);
+  to = at 1 0 (omega arith);
+}
 
-  pub column_listed : place < r → slice_index starts i + place < length columns
-  column_listed h = column_in n starts columns f up i place (there h) (omega (arith, within (there h)))
+-- what they say of the row
+module _ (n : ℕ) (starts columns : List ℕ) (f : Framed starts columns) (up : Climbing starts) (i : ℕ) (w : List ℕ) (b : Bounds starts i w) where
+  pub bounds_end : slice_index w 1 ≤ length columns
+  bounds_end = rw b.to (start_le n starts columns f up (i + 1) b.within)
 
-  pub column-at : place < r → slice_index columns (slice_index starts i + place) ≡ column_at (csr n starts columns) i place
-  column-at h = column_is n starts columns f up i place (there h) (omega (arith, within (there h)))
+  pub bounds_csr : between (slice_index w 0) (slice_index w 1) columns ≡ csr_row starts columns i
+  bounds_csr = rw (b.from, b.to)
 
--- where any row stands among the columns, from what its two starts say
-module _ (n : ℕ) (starts columns : List ℕ) (f : Framed starts columns) (up : Climbing starts) (i : ℕ) (r : ℕ × ℕ)
-    (within : i + 1 < length starts → r ≡ (slice_index starts i, slice_index starts (i + 1))) (past : length starts ≤ i + 1 → r ≡ (0, 0)) where
-  pub bounds_order : r.0 ≤ r.1
-  bounds_order = ⊎_elim
-      (λ l. rw (within l) (up i l))
-      (λ l. rw (past l) (le_refl 0))
-      (cases_lt (i + 1) (length starts))
+  pub bounds_row : between (slice_index w 0) (slice_index w 1) columns ≡ row_at (csr n starts columns) i
+  bounds_row = bounds_csr ∙ sym (row_is n starts columns i b.within)
 
-  pub bounds_end : r.1 ≤ length columns
-  bounds_end = ⊎_elim
-      (λ l. rw (within l) (start_le n starts columns f up (i + 1) l))
-      (λ l. rw (past l) (omega arith))
-      (cases_lt (i + 1) (length starts))
-
-  pub bounds_row : between r.0 r.1 columns ≡ row_at (csr n starts columns) i
-  bounds_row = ⊎_elim
-      (λ l. rw (within l) (sym (row_is n starts columns i l)))
-      (λ l. rw (past l) (sym (row_past n starts columns i l)))
-      (cases_lt (i + 1) (length starts))
+-- a row that rises and whose last column is in range is in order
+pub rising_ordered : (n : ℕ) (row : List ℕ) → IsStrictlyIncreasing row → (0 < length row → slice_index row (length row - 1) < n) → RowOrdered n row
+rising_ordered n row up last = (λ k h. omega (arith, climbs_to row (λ i l. omega (arith, up i l)) k (length row - 1) (omega arith) (omega arith), last (omega arith)), up)

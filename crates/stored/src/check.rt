@@ -1,76 +1,25 @@
-ghost use Rattle.std.specs.Prelude.{◌≡◌, ℕ, ◌+◌, ◌<◌, ◌≤◌, length, IfOk, Some, None, Ok, Err, MatchBool};
+ghost use Rattle.std.specs.Prelude.{◌≡◌, IfOk, Some, None, Ok, Err, MatchBool};
+ghost use Rattle.std.specs.List.Sorted.{IsStrictlyIncreasing};
 ghost use Rattle.pattern.specs.Sparsity.{Ordered, RowOrdered};
-ghost use Rattle.stored.specs.Csr.{Climbing, Framed, Shaped, Sized, csr};
-ghost use Rattle.stored.specs.Judged.{Holds, JudgedOf, brought_sparsity, sparsity_of};
+ghost use Rattle.stored.specs.Csr.{Climbing, Framed, Sized};
+ghost use Rattle.stored.specs.Judged.{Holds, JudgedOf, ShapedOf, brought_sparsity, sparsity_of};
 
 use super::lists::{Stored, Unchecked};
 use refusal::{Declined, Refusal};
 use std::alloc::{AllocError, Global};
 
-/// Whether the sizes are within the limits.
-fn sizes_fit(width: u32, starts: &[u32], columns: &[u32]) -> bool
-    ensures { MatchBool result (Sized width starts.now columns.now) (Sized width starts.now columns.now → ⊥) }
+/// Whether each column of a row is above the one before it.
+fn row_rises(row: &[u32]) -> bool
+    ensures { MatchBool result (IsStrictlyIncreasing row.now) (IsStrictlyIncreasing row.now → ⊥) }
 {
-    starts.len() <= 1_000_001 && width <= 1_000_000 && columns.len() <= 16_777_216
-}
-
-/// Whether the starts go from 0 to the number of columns listed.
-fn starts_frame(starts: &[u32], columns: &[u32]) -> bool
-    ensures { MatchBool result (Framed starts.now columns.now) (Framed starts.now columns.now → ⊥) }
-{
-    if starts.len() == 0 {
-        return false;
-    }
-    starts[0] == 0 && starts[starts.len() - 1] as usize == columns.len()
-}
-
-/// Whether no start is below the one before it.
-fn starts_climb(starts: &[u32]) -> bool
-    ensures { MatchBool result (Climbing starts.now) (Climbing starts.now → ⊥) }
-{
-    for i in 1..starts.len() {
-        if starts[i] < starts[i - 1] {
-            return false;
-        }
-    }
-    true
-}
-
-/// Whether the sizes and the starts are in order.
-fn shaped(width: u32, starts: &[u32], columns: &[u32]) -> bool
-    ensures { MatchBool result (Shaped width starts.now columns.now) (Shaped width starts.now columns.now → ⊥) }
-{
-    sizes_fit(width, starts, columns) && starts_frame(starts, columns) && starts_climb(starts)
+    row.is_sorted_by(|before, after| before < after)
 }
 
 /// Whether the columns of one row are in range and rise.
 fn row_ordered(width: u32, row: &[u32]) -> bool
     ensures { MatchBool result (RowOrdered width row.now) (RowOrdered width row.now → ⊥) }
 {
-    let mut least = 0;
-    for column in row {
-        if *column < least || *column >= width {
-            return false;
-        }
-        least = *column + 1;
-    }
-    true
-}
-
-/// Whether the columns of each row are in range and rise.
-fn rows_ordered(width: u32, starts: &[u32], columns: &[u32]) -> bool
-    requires { Shaped width starts.now columns.now }
-    ensures { MatchBool result (Ordered (csr width starts.now columns.now)) (Ordered (csr width starts.now columns.now) → ⊥) }
-{
-    let height = starts.len() - 1;
-    for i in 0..height {
-        let from = starts[i] as usize;
-        let to = starts[i + 1] as usize;
-        if !row_ordered(width, &columns[from..to]) {
-            return false;
-        }
-    }
-    true
+    row_rises(row) && row.last().is_none_or(|last| *last < width)
 }
 
 impl Unchecked {
@@ -92,16 +41,61 @@ impl Unchecked {
         })
     }
 
+    /// Whether the sizes are within the limits.
+    fn sizes_fit(&self) -> bool
+        ensures { MatchBool result (Sized self.now.width self.now.starts.items self.now.columns.items) (Sized self.now.width self.now.starts.items self.now.columns.items → ⊥) }
+    {
+        self.starts.len() <= 1_000_001
+            && self.width <= 1_000_000
+            && self.columns.len() <= 16_777_216
+    }
+
+    /// Whether the starts go from 0 to the number of columns listed.
+    fn starts_frame(&self) -> bool
+        ensures { MatchBool result (Framed self.now.starts.items self.now.columns.items) (Framed self.now.starts.items self.now.columns.items → ⊥) }
+    {
+        let (Some(first), Some(last)) = (self.starts.first(), self.starts.last()) else {
+            return false;
+        };
+        *first == 0 && *last as usize == self.columns.len()
+    }
+
+    /// Whether no start is below the one before it.
+    fn starts_climb(&self) -> bool
+        ensures { MatchBool result (Climbing self.now.starts.items) (Climbing self.now.starts.items → ⊥) }
+    {
+        self.starts.is_sorted()
+    }
+
+    /// Whether the sizes and the starts are in order.
+    fn shaped(&self) -> bool
+        ensures { MatchBool result (ShapedOf self.now) (ShapedOf self.now → ⊥) }
+    {
+        self.sizes_fit() && self.starts_frame() && self.starts_climb()
+    }
+
+    /// Whether the columns of each row are in range and rise.
+    fn rows_ordered(&self) -> bool
+        requires { ShapedOf self.now }
+        ensures { MatchBool result (Ordered (brought_sparsity self.now)) (Ordered (brought_sparsity self.now) → ⊥) }
+    {
+        for bounds in self.starts.windows(2) {
+            let row = &self.columns[bounds[0] as usize..bounds[1] as usize];
+            if !row_ordered(self.width, row) {
+                return false;
+            }
+        }
+        true
+    }
+
     /// What the check would refuse this pattern for, if anything.
     pub fn fault(&self) -> Option<Refusal>
         ensures { JudgedOf self.now result }
     {
-        let starts = self.starts.as_slice();
-        let columns = self.columns.as_slice();
-        if !shaped(self.width, starts, columns) {
+        if !self.shaped() {
             return Some(Refusal::Shape);
         }
-        if !rows_ordered(self.width, starts, columns) {
+        if !self.rows_ordered() {
             return Some(Refusal::Column);
         }
         None
@@ -112,18 +106,7 @@ impl Unchecked {
         ensures { elim result [ Ok s ↦ JudgedOf self None × Holds self s × (sparsity_of s ≡ brought_sparsity self) | Err d ↦ JudgedOf self (Some d.reason) × (d.brought ≡ self) ] }
     {
         match self.fault() {
-            None => {
-                let Unchecked {
-                    width,
-                    starts,
-                    columns,
-                } = self;
-                Ok(Stored {
-                    width,
-                    starts,
-                    columns,
-                })
-            }
+            None => Ok(Stored { lists: self }),
             Some(reason) => Err(Declined {
                 reason,
                 brought: self,
@@ -137,15 +120,7 @@ impl Stored {
     pub fn into_unchecked(self) -> Unchecked
         ensures { Holds result self }
     {
-        let Stored {
-            width,
-            starts,
-            columns,
-        } = self;
-        Unchecked {
-            width,
-            starts,
-            columns,
-        }
+        let Stored { lists } = self;
+        lists
     }
 }

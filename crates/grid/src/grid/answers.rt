@@ -1,12 +1,20 @@
-ghost use Rattle.std.specs.Prelude.{◌≡◌, ◌+◌, ◌-◌, ◌*◌, ◌/◌, ◌<◌, ◌≤◌, min, T, length, Ok, Err, slice_index_or};
+ghost use Rattle.std.specs.Prelude.{◌≡◌, ◌*◌, ◌<◌, ◌≤◌, length, Ok, Err, MatchBool, slice_index_or};
 ghost use Rattle.grid.specs.Grids.{sparsity_of};
 ghost use Rattle.grid.specs.Lattice.{Adjacent, Sides, lattice_sparsity, neighbours};
+ghost use Rattle.pattern.specs.Sparsity.{entries_between};
 ghost use Rattle.refusal.specs.declared.Refusal.TheVariants.{Shape};
 ghost use Rattle.grid.specs.Rows.{lawful_lattice};
 
 use super::Grid;
 use pattern::Pattern;
 use refusal::Refusal;
+
+/// Whether a grid can have these sides: neither is 0, and there are at most 1,000,000 points.
+fn sides_fit(width: u32, height: u32) -> bool
+    ensures { MatchBool result (Sides width height) (Sides width height → ⊥) }
+{
+    width > 0 && height > 0 && u64::from(width) * u64::from(height) <= 1_000_000
+}
 
 impl Grid {
     /// The grid with these sides; refused where a side is 0 or there are above 1,000,000 points.
@@ -33,87 +41,70 @@ impl Grid {
     {
         self.width * self.height
     }
-}
 
-/// Whether a grid can have these sides: neither is 0, and there are at most 1,000,000 points.
-fn sides_fit(width: u32, height: u32) -> bool
-    ensures { ((T result → Sides width height)) × ((Sides width height → T result)) }
-{
-    let points = width as u64 * height as u64;
-    width > 0 && height > 0 && points <= 1_000_000
-}
+    /// How many columns the row of a point has.
+    fn degree(&self, point: u32) -> u32
+        requires { point < self.now.width * self.now.height }
+        ensures { result ≡ length (neighbours self.now.width self.now.height point) }
+    {
+        let x = point % self.width;
+        let y = point / self.width;
+        1 + u32::from(y > 0)
+            + u32::from(x > 0)
+            + u32::from(x + 1 < self.width)
+            + u32::from(y + 1 < self.height)
+    }
 
-/// How many columns the row of a point has.
-fn degree(width: u32, height: u32, point: u32) -> u32
-    requires { (0 < width) × (point < 1000000) }
-    ensures { result ≡ length (neighbours width height point) }
-{
-    let x = point % width;
-    let y = point / width;
-    let mut count = 1;
-    if y + 1 < height {
-        count += 1;
-    }
-    if x + 1 < width {
-        count += 1;
-    }
-    if x > 0 {
-        count += 1;
-    }
-    if y > 0 {
-        count += 1;
-    }
-    count
-}
-
-/// The column at a place in the row of a point, and `past` past the row's end.
-fn neighbour(width: u32, height: u32, point: u32, place: u32, past: u32) -> u32
-    requires { (0 < width) × ((width ≤ 1000000) × (point < 1000000)) }
-    ensures { result ≡ slice_index_or (neighbours width height point) place past }
-{
-    let x = point % width;
-    let y = point / width;
-    let mut rest = place;
-    if y > 0 {
+    /// The column at a place in the row of a point, and the number of points past the row's end.
+    fn neighbour(&self, point: u32, place: u32) -> u32
+        requires { point < self.now.width * self.now.height }
+        ensures { result ≡ slice_index_or (neighbours self.now.width self.now.height point) place (self.now.width * self.now.height) }
+    {
+        let x = point % self.width;
+        let y = point / self.width;
+        let mut rest = place;
+        if y > 0 {
+            if rest == 0 {
+                return point - self.width;
+            }
+            rest -= 1;
+        }
+        if x > 0 {
+            if rest == 0 {
+                return point - 1;
+            }
+            rest -= 1;
+        }
         if rest == 0 {
-            return point - width;
+            return point;
         }
         rest -= 1;
-    }
-    if x > 0 {
-        if rest == 0 {
-            return point - 1;
+        if x + 1 < self.width {
+            if rest == 0 {
+                return point + 1;
+            }
+            rest -= 1;
         }
-        rest -= 1;
-    }
-    if rest == 0 {
-        return point;
-    }
-    rest -= 1;
-    if x + 1 < width {
-        if rest == 0 {
-            return point + 1;
+        if rest == 0 && y + 1 < self.height {
+            point + self.width
+        } else {
+            self.points()
         }
-        rest -= 1;
     }
-    if rest == 0 && y + 1 < height {
-        point + width
-    } else {
-        past
-    }
-}
 
-/// How many entries the rows before `row` have: one for each point itself, one for each that has a point above it, and
-/// so for those to the left, to the right and below.
-fn entries_before(width: u32, points: u32, row: u32) -> u32
-    requires { (0 < width) × ((width ≤ points) × ((points ≤ 1000000) × (row ≤ points))) }
-    ensures { result ≡ row + (row - width) + (row - (row + width - 1) / width) + (row - row / width) + min row (points - width) }
-{
-    let above = row.saturating_sub(width);
-    let left = row - (row + width - 1) / width;
-    let right = row - row / width;
-    let below = row.min(points - width);
-    row + above + left + right + below
+    /// How many entries the rows before `row` have: one for each point itself, one for each that has a point above it, and
+    /// so for those to the left, to the right and below.
+    #[tactic(auto, using(crate::proofs::Prefixes::entries_before_is))]
+    fn entries_before(&self, row: u32) -> u32
+        requires { row ≤ self.now.width * self.now.height }
+        ensures { result ≡ entries_between (sparsity_of self.now) 0 row }
+    {
+        let above = row.saturating_sub(self.width);
+        let left = row - row.div_ceil(self.width);
+        let right = row - row / self.width;
+        let below = row.min(self.points() - self.width);
+        row + above + left + right + below
+    }
 }
 
 /// The row of each point, worked out from the sides when it is asked for.
@@ -122,6 +113,7 @@ impl Pattern for Grid {
 
     ghost lawful = { λ g. lawful_lattice g.width g.height g.few };
 
+    #[tactic(auto, using(crate::specs::Rows::length_lattice))]
     fn row_count(&self) -> u32 {
         self.points()
     }
@@ -130,27 +122,26 @@ impl Pattern for Grid {
         self.points()
     }
 
+    #[tactic(auto, using(crate::specs::Rows::row_is, crate::specs::Rows::row_past))]
     fn entry_count(&self, row: u32) -> u32 {
         if row < self.points() {
-            degree(self.width, self.height, row)
+            self.degree(row)
         } else {
             0
         }
     }
 
+    #[tactic(auto, using(crate::specs::Rows::row_is, crate::specs::Rows::row_past))]
     fn column(&self, row: u32, place: u32) -> u32 {
-        let points = self.points();
-        if row < points {
-            neighbour(self.width, self.height, row, place, points)
+        if row < self.points() {
+            self.neighbour(row, place)
         } else {
-            points
+            self.points()
         }
     }
 
     fn entries_between(&self, from: u32, to: u32) -> u32 {
-        let points = self.points();
-        let end = to.min(points);
-        let start = from.min(end);
-        entries_before(self.width, points, end) - entries_before(self.width, points, start)
+        let end = to.min(self.points());
+        self.entries_before(end) - self.entries_before(from.min(end))
     }
 }

@@ -1,32 +1,19 @@
-use Rattle.std.proofs.Common.{◌||◌, refl, ap, ◌∙◌, arith}
+use Rattle.std.proofs.Common.{◌||◌, refl, sym, ap, ◌∙◌, arith}
+use Rattle.std.proofs.Math.Bool.{or_comm}
 use Rattle.pattern.specs.Columns.{among, columns_in, row_number}
-use Rattle.marks.specs.Meanings.{marked_sparsity}
-use Rattle.marks.specs.Seen.{covered, seen}
-use Rattle.marks.proofs.Counting.{count_begins, counted, or_turned}
+use Rattle.marks.proofs.Counting.{counts_each, counts_le, counted_then}
 use Rattle.marks.proofs.memory.Marked.union.Goals as goal
 
-pub count_numbers-counted-requires : goal.count_numbers-counted-requires
-count_numbers-counted-requires g c =
-    let m = c.args.self.now in
-    let b = c.begin.ensures in
-    record {
-      enough = omega (arith, m.enough, b.same);
-      before = count_begins m.width (covered c.begin.new.self) (seen c.begin.new.self) (omega (arith, m.enough, b.same)) b.none;
-    }
+pub overflow_add-result : goal.overflow_add-result
+overflow_add-result g c =
+    omega (arith, counts_le (counted_then c.count_numbers.ensures c.count_rows.ensures (λ k h. refl)).counts, c.args.self.now.narrow)
 
-pub returns : goal.returns
-returns g c =
+pub returns-clause-value : goal.returns-clause-value
+returns-clause-value g c =
     let m = c.args.self.now in
     let b = c.begin.ensures in
-    let n = c.count_numbers-counted.ensures in
-    let e = c.count_rows.ensures in
-    let columns = columns_in (marked_sparsity g.P.Pattern.sparsity m) c.args.from c.args.to in
-    record {
-      value = counted m.width (covered c.begin.new.self) c.count_rows.result (seen c.begin.new.self) (seen c.count_rows.new.marks)
-          (λ k. among columns k || row_number c.args.from c.args.to k)
-          (omega (arith, m.enough, b.same)) b.none
-          (λ k h. e.after k h ∙ ap (λ v. v || among columns k) (n.after k h)
-          ∙ or_turned (seen c.begin.new.self k) (row_number c.args.from c.args.to k) (among columns k))
-          e.value;
-      same = (refl, refl);
-    }
+    counts_each (λ k h. b.none k (omega (arith, m.enough, b.same)))
+    (counted_then c.count_numbers.ensures c.count_rows.ensures
+    (λ k h. or_comm (among (columns_in (g.P.Pattern.sparsity m.pattern) c.args.from c.args.to) k) (row_number c.args.from c.args.to k)
+    ∙ ap (λ p. row_number c.args.from c.args.to k || among (columns_in (g.P.Pattern.sparsity p) c.args.from c.args.to) k)
+    (sym c.count_numbers.ensures.pattern))).counts
