@@ -3,6 +3,7 @@ use Rattle.std.proofs.Common.{◌≡◌, ℕ, zero, suc, ◌+◌, ◌-◌, ◌<�
 use Rattle.std.specs.List.{between}
 use Rattle.std.proofs.lemmas.List.{append_assoc, length-append, take_at, drop_at}
 use Rattle.std.proofs.lemmas.List.Sums.{sum_by-append, sum_by-cons}
+use Rattle.std.proofs.Math.Bool.{or-false, or-true}
 use Rattle.std.proofs.lemmas.Bool.{cases_eq, cases_Bool, eq-eqb, ne_eqb, le-leb, lt-leb, eqb-true}
 use Rattle.pattern.specs.Columns.{among, columns_in, distinct_columns, size_below}
 use Rattle.pattern.specs.Sparsity.{Lawful, Sparsity, entries_between, row_at, row_count}
@@ -32,19 +33,11 @@ code_seen s a (suc d) c h =
     ∙ ⊎_elim
     (λ (y : among (row_at s i) c ≡ true).
     ap (λ x. leb (cond x (suc i) (code s i c)) a) y ∙ lt-leb (suc i) a (omega arith)
-    ∙ sym (ap not (m ∙ ap (λ x. among (columns_in s a i) c || x) y ∙ or_true (among (columns_in s a i) c))))
+    ∙ sym (ap not (m ∙ ap (λ x. among (columns_in s a i) c || x) y ∙ or-true (among (columns_in s a i) c))))
     (λ (n : among (row_at s i) c ≡ false).
     ap (λ x. leb (cond x (suc i) (code s i c)) a) n ∙ code_seen s a d c (omega arith)
-    ∙ sym (ap not (m ∙ ap (λ x. among (columns_in s a i) c || x) n ∙ or_false (among (columns_in s a i) c))))
+    ∙ sym (ap not (m ∙ ap (λ x. among (columns_in s a i) c || x) n ∙ or-false (among (columns_in s a i) c))))
     (cases_Bool (among (row_at s i) c))
-  where
-    or_true : (b : Bool) → (b || true) ≡ true
-    or_true true = refl
-    or_true false = refl
-
-    or_false : (b : Bool) → (b || false) ≡ b
-    or_false true = refl
-    or_false false = refl
 
 -- two sets of numbers that have none in common
 size_add : (p q r : ℕ → Bool) → ((c : ℕ) → one (p c) ≡ one (q c) + one (r c)) → (n : ℕ) → size_below n p ≡ size_below n q + size_below n r
@@ -123,10 +116,6 @@ count_map : (f : ℕ → ℕ) (p : ℕ → Bool) (xs : List ℕ) → count_by p 
 count_map f p [] = refl
 count_map f p (x ∷ xs) = omega (arith, sum_by-cons (λ c. one (p c)) (f x) (map f xs), sum_by-cons (λ c. one (p (f c))) x xs, count_map f p xs)
 
-count_same : (p q : ℕ → Bool) → ((x : ℕ) → p x ≡ q x) → (xs : List ℕ) → count_by p xs ≡ count_by q xs
-count_same p q h [] = refl
-count_same p q h (x ∷ xs) = omega (arith, sum_by-cons (λ c. one (p c)) x xs, sum_by-cons (λ c. one (q c)) x xs, ap one (h x), count_same p q h xs)
-
 module _ (s : Sparsity) (lawful : Lawful s) (a : ℕ) where
   -- the low codes up to a row are those up to row a, and one for each distinct column since
   counted : (d : ℕ) → a + d ≤ row_count s
@@ -148,7 +137,7 @@ module _ (s : Sparsity) (lawful : Lawful s) (a : ℕ) where
       let t = size_add (λ c. old c || among r c) old (λ c. among r c && not (old c)) (λ c. split (old c) (among r c)) n in
       let u = row_size (λ c. not (old c)) n 0 r (rising_from r 0 (λ l. omega arith) (lawful.ordered i).1) (lawful.ordered i).0 in
       let m = count_map (code s i) (λ x. leb x a) r in
-      let k = count_same (λ c. leb (code s i c) a) (λ c. not (old c)) (λ c. code_seen s a d c (omega arith)) r in
+      let k = ap (λ (p : ℕ → Bool). count_by p r) (mathlib.Core.Path.fun_ext (λ c. code_seen s a d c (omega arith))) in
       let p = sum_by-append (λ x. one (leb x a)) (codes_to s i) (map (code s i) r) in
       let q = ap (λ l. count_by (λ x. leb x a) l) (codes_more s i) in
       subst (λ x. count_by (λ y. leb y a) (codes_to s x) ≡ count_by (λ y. leb y a) (codes_to s a) + distinct_columns s a x) (sym f)

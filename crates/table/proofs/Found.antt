@@ -1,19 +1,20 @@
 -- The codes of a table are found, batch after batch and window after window, and then its levels are those of the codes.
-use Rattle.std.proofs.Common.{◌≡◌, ℕ, ◌+◌, ◌-◌, ◌*◌, ◌^◌, ◌<◌, ◌≤◌, min, true, false, cond, ltb, leb, List, length, get_or, sym, ap, ◌∙◌, subst, ⊎_elim, arith}
+use Rattle.std.proofs.Common.{◌≡◌, ℕ, ◌+◌, ◌-◌, ◌*◌, ◌^◌, ◌<◌, ◌≤◌, min, true, ltb, leb, List, IfSome, length, get_or, sym, ap, ◌∙◌, subst, ⊎_elim, arith}
 use Rattle.std.specs.List.{between}
-use Rattle.std.proofs.lemmas.Bool.{and_from, and_parts, cases_lt, le-leb, lt-ltb, ltb-true}
+use Rattle.std.proofs.lemmas.Bool.{and_from, cases_lt, le-leb, lt-ltb}
 use Rattle.levels.specs.Layouts.{end_of}
 use Rattle.levels.specs.Numbers.{levels}
 use Rattle.levels.specs.Traces.{AllStand}
 use Rattle.levels.specs.declared.layout.Layout.{Layout}
 use Rattle.levels.proofs.Traces.{levels_traced, traced_levels}
 use Rattle.pattern.specs.Sparsity.{Lawful, Sparsity}
-use Rattle.table.specs.Checks.{AllFound, FoundAt, WindowFound}
+use Rattle.table.specs.Checks.{AllFound, BatchFound, FoundAt, WindowFound}
 use Rattle.table.specs.Codes.{codes}
 use Rattle.table.specs.Stores.{LaidOut}
 use Rattle.table.specs.Walks.{Batched, column_of, windowed}
 use Rattle.table.specs.Words.{total_entries, table_words}
-use Rattle.table.specs.declared.walk.Batch.{Batch}
+use Rattle.table.specs.declared.batch.Batch.{Batch}
+use Rattle.table.proofs.Batches.{shown_if}
 use Rattle.table.proofs.Stored.{codes_total, column_below}
 use Rattle.table.proofs.Wholes.{table_leveled, words_length}
 
@@ -21,40 +22,19 @@ use Rattle.table.proofs.Wholes.{table_leveled, words_length}
 module _ (s : Sparsity) (first w : ℕ) (l : Layout) (ws : List ℕ) (word size : ℕ) (b : Batch)
     (sized : size ≡ min (total_entries s - 64 * word) 64) (batched : Batched s first w (64 * word) size b)
   where
-    Inside : ℕ → Type 0
-    Inside k = get_or b.inside k false ≡ true
-
-    parts : (k : ℕ) → k < 64 → Inside k → (k < size) × (get_or b.codes k 0 ≡ get_or (codes s) (64 * word + k) 0)
-    unfolding Inside
-    parts k h y =
-        let p = and_parts (ltb k size) (windowed first w (column_of s (64 * word + k))) (sym (batched k h).0 ∙ y) in
-        (ltb-true k size p.0, (batched k h).1 ∙ ap (λ t. cond t (get_or (codes s) (64 * word + k) 0) 0) y)
-
-    pub batch_within : (k : ℕ) → k < 64 → get_or b.inside k false ≡ true → 64 * word + k < total_entries s
-    unfolding Inside
-    batch_within k h y = omega (arith, (parts k h y).0)
-
-    -- where the codes of all entries are found, those of the batch are
-    pub found_batch : AllFound s l ws → (k : ℕ) → k < 64 → get_or b.inside k false ≡ true → FoundAt l ws (64 * word + k) (get_or b.codes k 0)
-    unfolding Inside
-    found_batch f k h y =
-        subst (λ x. FoundAt l ws (64 * word + k) x) (sym (parts k h y).1) (f (64 * word + k) (batch_within k h y))
-
     -- with those of the batch, the entries of the window are found up to the next word
-    pub found_more : ((k : ℕ) → k < 64 → get_or b.inside k false ≡ true → FoundAt l ws (64 * word + k) (get_or b.codes k 0))
+    pub found_more : BatchFound l ws word b
         → ((q : ℕ) → q < 64 * word → q < total_entries s → windowed first w (column_of s q) ≡ true → FoundAt l ws q (get_or (codes s) q 0))
         → (q : ℕ) → q < 64 * (word + 1) → q < total_entries s → windowed first w (column_of s q) ≡ true → FoundAt l ws q (get_or (codes s) q 0)
-    unfolding Inside
     found_more here before q h n y =
         ⊎_elim (λ (a : q < 64 * word). before q a n y)
         (λ (a : 64 * word ≤ q).
         let k = q - 64 * word in
         let e : 64 * word + k ≡ q = omega arith in
         let j : k < 64 = omega arith in
-        let i : get_or b.inside k false ≡ true =
-        (batched k j).0
-        ∙ and_from (ltb k size) (windowed first w (column_of s (64 * word + k))) (lt-ltb k size (omega arith)) (ap (λ x. windowed first w (column_of s x)) e ∙ y) in
-        subst (λ x. FoundAt l ws x (get_or (codes s) x 0)) e (subst (λ x. FoundAt l ws (64 * word + k) x) (parts k j i).1 (here k j i)))
+        subst (λ x. FoundAt l ws x (get_or (codes s) x 0)) e
+        (shown_if (ltb k size) (windowed first w (column_of s (64 * word + k))) (get_or (codes s) (64 * word + k) 0) (FoundAt l ws (64 * word + k))
+        (subst (λ o. IfSome o (FoundAt l ws (64 * word + k))) (batched k j) (here k j)) (lt-ltb k size (omega arith)) (ap (λ x. windowed first w (column_of s x)) e ∙ y)))
         (cases_lt q (64 * word))
 
 -- one window more

@@ -1,5 +1,6 @@
 -- The columns and the codes of the entries, row after row.
-use Rattle.std.proofs.Common.{◌≡◌, ℕ, zero, suc, ◌+◌, ◌-◌, ◌<◌, ◌≤◌, min, List, [], ◌++◌, map, length, get_or, sym, refl, ap, ◌∙◌, subst, ⊎_elim, add-one, arith}
+use Rattle.std.proofs.Common.{◌≡◌, ℕ, zero, suc, ◌+◌, ◌-◌, ◌<◌, ◌≤◌, min, List, [], ◌∷◌, ◌++◌, map, length, get_or, sym, refl, ap, ◌∙◌, subst, ⊎_elim, add-one, arith}
+use Rattle.std.specs.List.{range_with_len}
 use Rattle.std.proofs.lemmas.List.{append-nil, append_assoc, length-append, length-map, get_or_append_left, get_or-append-add, get_or-map, get_or_past}
 use Rattle.std.proofs.lemmas.Bool.{cases_lt}
 use Rattle.pattern.specs.Columns.{columns_in}
@@ -7,6 +8,7 @@ use Rattle.pattern.specs.Sparsity.{Sparsity, entries_between, entry_count, row_a
 use Rattle.pattern.proofs.Sets.{columns_none, columns_more}
 use Rattle.pattern.proofs.Spans.{entries_clipped, entries_more}
 use Rattle.table.specs.Codes.{code, codes, codes_to}
+use Rattle.table.specs.Heads.{starts_from}
 
 -- lists of which each is the one before it and some more
 module _ (F f : ℕ → List ℕ) (m : ℕ) (more : (i : ℕ) → i < m → F (i + 1) ≡ F i ++ f i) where
@@ -98,3 +100,31 @@ module _ (s : Sparsity) where
   column-at i k d h l =
       ap (λ x. get_or (columns_in s 0 (row_count s)) (x + k) d) (sym (columns_length i (omega arith)))
       ∙ grown_at (columns_in s 0) (row_at s) (row_count s) (λ j a. columns_more s 0 j (omega arith) a) i k d h l
+
+  -- the row starts from row n on begin with row n, if there is one
+  starts_more : (n : ℕ) → n ≤ row_count s → starts_from s n ≡ (n, entries_between s 0 n) ∷ starts_from s (n + 1)
+  starts_more n h =
+      let z : row_count s + 1 - n ≡ suc (row_count s - n) = omega arith in
+      let y : row_count s - n ≡ row_count s + 1 - (n + 1) = omega arith in
+      ap (λ k. map (λ j. (j, entries_between s 0 j)) (range_with_len n k)) z
+      ∙ ap (λ k. (n, entries_between s 0 n) ∷ map (λ j. (j, entries_between s 0 j)) (range_with_len (n + 1) k)) y
+
+  starts_none : (n : ℕ) → row_count s < n → starts_from s n ≡ []
+  starts_none n h = let z : row_count s + 1 - n ≡ 0 = omega arith in ap (λ k. map (λ j. (j, entries_between s 0 j)) (range_with_len n k)) z
+
+  pub starts_turn : (n : ℕ) (x : ℕ × ℕ) (rest : List (ℕ × ℕ)) → starts_from s n ≡ x ∷ rest
+      → (n ≤ row_count s) × (x.0 ≡ n) × (x.1 ≡ entries_between s 0 n) × (rest ≡ starts_from s (n + 1))
+  starts_turn n x rest e = ⊎_elim past within (cases_lt (row_count s) n)
+    where
+      past : row_count s < n → (n ≤ row_count s) × (x.0 ≡ n) × (x.1 ≡ entries_between s 0 n) × (rest ≡ starts_from s (n + 1))
+      past l = let d = starts_none n l in cc
+
+      within : n ≤ row_count s → (n ≤ row_count s) × (x.0 ≡ n) × (x.1 ≡ entries_between s 0 n) × (rest ≡ starts_from s (n + 1))
+      within l =
+          let d = starts_more n l in
+          let first : x ≡ (n, entries_between s 0 n) = cc in
+          let others : rest ≡ starts_from s (n + 1) = cc in
+          (l, ap (λ p. p.0) first, ap (λ p. p.1) first, others)
+
+  pub starts_done : (n : ℕ) → starts_from s n ≡ [] → row_count s < n
+  starts_done n e = ⊎_elim (λ (l : row_count s < n). l) (λ (l : n ≤ row_count s). let d = starts_more n l in cc) (cases_lt (row_count s) n)

@@ -1,7 +1,8 @@
 -- The codes at the places of a table, batch after batch and window after window.
-use Rattle.std.proofs.Common.{◌≡◌, ℕ, zero, suc, ◌+◌, ◌-◌, ◌*◌, ◌/◌, ◌%◌, ◌^◌, ◌<◌, ◌≤◌, Bool, true, false, cond, ◌&&◌, ◌||◌, ltb, leb, ◌⊎◌, List, length, get_or, sym, refl, ap, ◌∙◌, subst, ⊎_elim, arith}
+use Rattle.std.proofs.Common.{◌≡◌, ℕ, zero, suc, ◌+◌, ◌-◌, ◌*◌, ◌/◌, ◌%◌, ◌^◌, ◌<◌, ◌≤◌, Bool, true, false, cond, ◌&&◌, ◌||◌, ltb, leb, ◌⊎◌, List, None, unwrap_or, length, get_or, sym, refl, ap, ◌∙◌, subst, ⊎_elim, arith}
 use native.Mathlib.Nat.{zero-mod}
 use Rattle.std.proofs.lemmas.List.{get_or_append_left, get_or-append_right, get_or_default, get_or_past, length-append}
+use Rattle.std.proofs.Math.Bool.{and-false, or-false}
 use Rattle.std.proofs.lemmas.Bool.{and_cases, and_parts, cases_Bool, cases_eq, cases_lt, leb-false, leb-true, lt-ltb, le-ltb, ltb-false}
 use Rattle.levels.specs.declared.layout.Layout.{Layout}
 use Rattle.pattern.specs.Columns.{columns_in}
@@ -11,7 +12,8 @@ use Rattle.table.specs.Codes.{codes}
 use Rattle.table.specs.Stores.{Stored, done, done_code, placed}
 use Rattle.table.specs.Walks.{Batched, column_of, windowed}
 use Rattle.table.specs.Words.{total_entries}
-use Rattle.table.specs.declared.walk.Batch.{Batch}
+use Rattle.table.specs.declared.batch.Batch.{Batch}
+use Rattle.table.proofs.Batches.{code_shown}
 use Rattle.table.proofs.Runs.{codes_length, columns_length}
 
 module _ (s : Sparsity) where
@@ -55,34 +57,12 @@ cond_zero : (b : Bool) (x : ℕ) → x ≡ 0 → cond b x 0 ≡ 0
 cond_zero true x e = e
 cond_zero false x e = refl
 
-and_false : (b : Bool) → (b && false) ≡ false
-and_false true = refl
-and_false false = refl
-
-and_true : (b : Bool) → (b && true) ≡ b
-and_true true = refl
-and_true false = refl
-
-or_false : (b : Bool) → (b || false) ≡ b
-or_false true = refl
-or_false false = refl
-
 module _ (s : Sparsity) (first w : ℕ) where
-  -- a window that is before its first entry, and one that is past its last
+  -- a window that is before its first entry
   done_before : (q : ℕ) → done s first w 0 q ≡ ltb (column_of s q) first
   done_before q =
       ap (λ b. ltb (column_of s q) first || (ltb (column_of s q) (first + w) && b)) (le-ltb q 0 (omega arith))
-      ∙ ap (λ b. ltb (column_of s q) first || b) (and_false (ltb (column_of s q) (first + w))) ∙ or_false (ltb (column_of s q) first)
-
-  done_after : (to q : ℕ) → q < to → done s first w to q ≡ ltb (column_of s q) (first + w)
-  done_after to q h =
-      ap (λ b. ltb (column_of s q) first || (ltb (column_of s q) (first + w) && b)) (lt-ltb q to h)
-      ∙ ap (λ b. ltb (column_of s q) first || b) (and_true (ltb (column_of s q) (first + w)))
-      ∙ ⊎_elim
-      (λ (l : column_of s q < first).
-      ap (λ b. b || ltb (column_of s q) (first + w)) (lt-ltb (column_of s q) first l) ∙ sym (lt-ltb (column_of s q) (first + w) (omega arith)))
-      (λ (l : first ≤ column_of s q). ap (λ b. b || ltb (column_of s q) (first + w)) (le-ltb (column_of s q) first l))
-      (cases_lt (column_of s q) first)
+      ∙ ap (λ b. ltb (column_of s q) first || b) (and-false (ltb (column_of s q) (first + w))) ∙ or-false (ltb (column_of s q) first)
 
   -- outside of the window nothing changes
   done_outside : (q a b : ℕ) → windowed first w (column_of s q) ≡ false → done s first w a q ≡ done s first w b q
@@ -103,22 +83,6 @@ module _ (s : Sparsity) (first w : ℕ) where
       ∙ ap (λ t. t && ltb q to) p.1
 
 module _ (s : Sparsity) (w : ℕ) where
-  -- before the first window nothing is done
-  pub stored_start : (q : ℕ) → done_code s 0 w 0 q ≡ 0
-  stored_start q =
-      ap (λ b. cond b (get_or (codes s) q 0) 0) (done_before s 0 w q ∙ le-ltb (column_of s q) 0 (omega arith))
-
-  -- the end of one window is the beginning of the next
-  pub stored_next : (first to q : ℕ) → total_entries s ≤ to → done_code s first w to q ≡ done_code s (first + w) w 0 q
-  stored_next first to q h =
-      ⊎_elim
-      (λ (l : q < total_entries s).
-      ap (λ b. cond b (get_or (codes s) q 0) 0) (done_after s first w to q (omega arith) ∙ sym (done_before s (first + w) w q)))
-      (λ (l : total_entries s ≤ q).
-      cond_zero (done s first w to q) (get_or (codes s) q 0) (code_past s q l)
-      ∙ sym (cond_zero (done s (first + w) w 0 q) (get_or (codes s) q 0) (code_past s q l)))
-      (cases_lt q (total_entries s))
-
   -- past the last column all is done
   pub stored_end : Lawful s → (first q : ℕ) → s.column_count ≤ first → done_code s first w 0 q ≡ get_or (codes s) q 0
   stored_end lawful first q h =
@@ -134,8 +98,8 @@ module _ (s : Sparsity) (w : ℕ) where
 module _ (s : Sparsity) (first w : ℕ) (l : Layout) (was is : List ℕ) (word count : ℕ) (b : Batch)
     (all : total_entries s ≤ 64 * word + count ⊎ count ≡ 64)
     (batched : Batched s first w (64 * word) count b)
-    (here : (k : ℕ) → k < 64 → placed l was (64 * word + k) ≡ 0 → placed l is (64 * word + k) ≡ get_or b.codes k 0 % 2 ^ l.bits)
-    (kept : (k : ℕ) → k < 64 → get_or b.codes k 0 ≡ 0 → placed l is (64 * word + k) ≡ placed l was (64 * word + k))
+    (here : (k : ℕ) → k < 64 → placed l was (64 * word + k) ≡ 0 → placed l is (64 * word + k) ≡ unwrap_or (get_or b.found k None) 0 % 2 ^ l.bits)
+    (kept : (k : ℕ) → k < 64 → unwrap_or (get_or b.found k None) 0 ≡ 0 → placed l is (64 * word + k) ≡ placed l was (64 * word + k))
     (others : (q : ℕ) → (q / 64 ≡ word → ⊥) → q < 64 * l.words → placed l is q ≡ placed l was q)
     (before : Stored s first w (64 * word) l was)
   where
@@ -147,18 +111,20 @@ module _ (s : Sparsity) (first w : ℕ) (l : Layout) (was is : List ℕ) (word c
     inner k h m =
         let q = 64 * word + k in
         let c = get_or (codes s) q 0 in
-        let e = batched k h in
+        let inside = ltb k count && windowed first w (column_of s q) in
+        let e : unwrap_or (get_or b.found k None) 0 ≡ cond inside c 0 =
+        ap (λ o. unwrap_or o 0) (batched k h) ∙ code_shown (ltb k count) (windowed first w (column_of s q)) c in
         ⊎_elim
-        (λ (y : get_or b.inside k false ≡ true).
-        let p = and_parts (ltb k count) (windowed first w (column_of s q)) (sym e.0 ∙ y) in
+        (λ (y : inside ≡ true).
+        let p = and_parts (ltb k count) (windowed first w (column_of s q)) y in
         let old : done_code s first w (64 * word) q ≡ 0 =
         ap (λ t. cond t c 0) (done_inside s first w q (64 * word) p.1 ∙ le-ltb q (64 * word) (omega arith)) in
         let new : done_code s first w (64 * (word + 1)) q ≡ c =
         ap (λ t. cond t c 0) (done_inside s first w q (64 * (word + 1)) p.1 ∙ lt-ltb q (64 * (word + 1)) (omega arith)) in
         let z : placed l was q ≡ 0 = before q m ∙ ap (λ x. x % T) old ∙ zero-mod T in
-        here k h z ∙ ap (λ x. x % T) (e.1 ∙ ap (λ t. cond t c 0) y ∙ sym new))
-        (λ (n : get_or b.inside k false ≡ false).
-        let z : get_or b.codes k 0 ≡ 0 = e.1 ∙ ap (λ t. cond t c 0) n in
+        here k h z ∙ ap (λ x. x % T) (e ∙ ap (λ t. cond t c 0) y ∙ sym new))
+        (λ (n : inside ≡ false).
+        let z : unwrap_or (get_or b.found k None) 0 ≡ 0 = e ∙ ap (λ t. cond t c 0) n in
         let same : done_code s first w (64 * word) q ≡ done_code s first w (64 * (word + 1)) q =
         ⊎_elim
         (λ (f : ltb k count ≡ false).
@@ -166,9 +132,9 @@ module _ (s : Sparsity) (first w : ℕ) (l : Layout) (was is : List ℕ) (word c
         cond_zero (done s first w (64 * word) q) c past ∙ sym (cond_zero (done s first w (64 * (word + 1)) q) c past))
         (λ (f : windowed first w (column_of s q) ≡ false).
         ap (λ t. cond t c 0) (done_outside s first w q (64 * word) (64 * (word + 1)) f))
-        (and_cases (ltb k count) (windowed first w (column_of s q)) (sym e.0 ∙ n)) in
+        (and_cases (ltb k count) (windowed first w (column_of s q)) n) in
         kept k h z ∙ before q m ∙ ap (λ x. x % T) same)
-        (cases_Bool (get_or b.inside k false))
+        (cases_Bool inside)
       where
         over : (k : ℕ) → count ≡ 64 → count ≤ k → k < 64 → ⊥
         over k a f h = omega arith

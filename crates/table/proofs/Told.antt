@@ -5,7 +5,8 @@ use native.Mathlib.Bridge.{le_prop}
 use native.Mathlib.Nat.{ℕ_set}
 use Rattle.std.specs.List.{between}
 use Rattle.std.proofs.lemmas.List.FromFn.{length-map-range_with_len, get_or-map-range_with_len}
-use Rattle.std.proofs.lemmas.List.{ext_get_or, get_or_append_left, get_or-append_right, get_or-take}
+use Rattle.std.proofs.lemmas.List.{ext_get_or, get_or_append_left, get_or-append_right, get_or_default, get_or-take}
+use Rattle.std.proofs.lemmas.List.Edits.{between_none}
 use Rattle.std.proofs.lemmas.Bool.{cases_lt, le-leb, le-ltb, lt-leb, lt-ltb}
 use Rattle.levels.specs.Layouts.{Has, Reaches, end_of}
 use Rattle.levels.specs.Numbers.{AllBelow, numbers_below, digits, levels}
@@ -61,6 +62,10 @@ below_most a xs = ap (λ (p : ℕ → Bool). count_by p xs) (mathlib.Core.Path.f
   where
     same : (x : ℕ) → ltb x (a + 1) ≡ leb x a
     same x = ⊎_elim (λ (l : x < a + 1). lt-ltb x (a + 1) l ∙ sym (le-leb x a (omega arith))) (λ (l : a + 1 ≤ x). le-ltb x (a + 1) l ∙ sym (lt-leb x a (omega arith))) (cases_lt x (a + 1))
+
+-- a run of no rows has no columns
+pub told_none : (ws : List ℕ) (a : ℕ) → told_distinct ws a a ≡ 0
+told_none ws a = ap (count_by (λ x. leb x a)) (between_none (told_codes ws) (told_start ws a))
 
 module _ (s : Sparsity) (law : Lawful s) where
   pub few_entries : (a b : ℕ) → entries_between s a b ≤ 16777216
@@ -191,6 +196,10 @@ module _ (ws : List ℕ) (table : SomeTable ws) where
   pub some_front : 4 + told_rows ws ≤ length ws
   some_front = ∥∥₁_elim table le_prop (λ t. omega (arith, front_fits t.0 t.1.0 ws t.1.1, rows_told t.0 t.1.0 ws t.1.1))
 
+  -- a word of the front that was read
+  pub some_word : (i x : ℕ) → i < 4 + told_rows ws → x ≡ get_or ws i x → x ≡ get_or ws i 0
+  some_word i x h e = e ∙ get_or_default ws i x 0 (omega (arith, some_front))
+
   pub some_rows : told_rows ws ≤ 1000000
   some_rows = ∥∥₁_elim table le_prop (λ t. omega (arith, rows_told t.0 t.1.0 ws t.1.1, t.1.0.height))
 
@@ -207,14 +216,14 @@ module _ (ws : List ℕ) (table : SomeTable ws) where
   some_few a b h l =
       ∥∥₁_elim table le_prop (λ t. let r = rows_told t.0 t.1.0 ws t.1.1 in few_told t.0 t.1.0 ws t.1.1 a b h (omega arith))
 
-  pub some_counted : (l : Layout) (r from to start end bound : ℕ) → from < to → to ≤ told_rows ws → start ≡ told_start ws from → end ≡ told_start ws to
+  pub some_counted : (vs : List ℕ) → vs ≡ ws → (l : Layout) (r from to start end bound : ℕ) → from < to → to ≤ told_rows ws → start ≡ told_start ws from → end ≡ told_start ws to
       → bound ≡ from + 1 → l.start ≡ 4 + told_rows ws → l.count ≡ get_or ws 2 0 → l.words ≡ (get_or ws 2 0 + 63) / 64 → l.bits ≡ digits (told_rows ws) → told_rows ws < 2 ^ l.bits
-      → ((cs : List ℕ) → Reaches l ws → Has l ws cs → AllBelow (2 ^ l.bits) cs → bound < 2 ^ l.bits → start ≤ end → end ≤ l.count → r ≡ numbers_below bound (between start end cs))
+      → ((cs : List ℕ) → Reaches l vs → Has l vs cs → AllBelow (2 ^ l.bits) cs → bound < 2 ^ l.bits → start ≤ end → end ≤ l.count → r ≡ numbers_below bound (between start end cs))
       → r ≡ told_distinct ws from to
-  some_counted l r from to start end bound h k p q e st co wo bi hold count =
+  some_counted vs same l r from to start end bound h k p q e st co wo bi hold count =
       ∥∥₁_elim table (ℕ_set _ _) (λ t.
       let rows = rows_told t.0 t.1.0 ws t.1.1 in
       let entries = entries-told t.0 t.1.0 ws t.1.1 in
       counted_told t.0 t.1.0 ws t.1.1 l
       (record { starting = st ∙ ap (λ x. 4 + x) rows; counted = co ∙ entries; worded = wo ∙ ap (λ x. (x + 63) / 64) entries; digited = bi ∙ ap digits rows })
-      r from to start end bound (omega arith) (omega arith) p q e (omega arith) count)
+      r from to start end bound (omega arith) (omega arith) p q e (omega arith) (λ cs a b. count cs (subst (Reaches l) (sym same) a) (subst (λ x. Has l x cs) (sym same) b)))

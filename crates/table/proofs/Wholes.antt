@@ -1,8 +1,8 @@
 -- The whole table: its length, and its words from its parts.
-use Rattle.std.proofs.Common.{◌≡◌, ℕ, zero, suc, ◌+◌, ◌*◌, ◌<◌, ◌≤◌, List, [], ◌∷◌, ◌++◌, length, get_or, take, drop, set, sym, refl, ap, ◌∙◌, ap₂, suc-mul, zero-mul, arith}
+use Rattle.std.proofs.Common.{◌≡◌, ℕ, zero, suc, ◌+◌, ◌*◌, ◌<◌, ◌≤◌, List, [], ◌∷◌, ◌++◌, length, get_or, take, drop, sym, refl, ap, ◌∙◌, ap₂, suc-mul, zero-mul, arith}
 use Rattle.std.specs.List.{between}
 use Rattle.std.proofs.lemmas.List.FromFn.{length-map-range_with_len, get_or-map-range_with_len}
-use Rattle.std.proofs.lemmas.List.{drop_at, ext_get_or, get_or_append_left, get_or-set_other, get_or-set_same, get_or-take, length-append, length-set, length-take-le, take-append-drop}
+use Rattle.std.proofs.lemmas.List.{drop_at, ext_get_or, get_or_append_left, get_or-take, length-append, length-take-le, take-append-drop}
 use Rattle.std.proofs.lemmas.Slice.{between_to_end}
 use Rattle.levels.specs.Layouts.{Reaches, end_of}
 use Rattle.levels.specs.Numbers.{level, levels, plane, sorted}
@@ -93,14 +93,3 @@ module _ (s : Sparsity) where
     table_leveled =
         between_to_end (table_words s) l.start (end_of l) (omega (arith, words_length))
         ∙ ap (λ x. drop l.start x) words_split ∙ drop_at heads tail l.start (length_heads ∙ sym laid.starting)
-
--- the first three words
-pub sized_set : (xs : List ℕ) (a b d : ℕ) → 3 ≤ length xs
-    → (get_or (set (set (set xs 0 a) 1 b) 2 d) 0 0 ≡ a) × (get_or (set (set (set xs 0 a) 1 b) 2 d) 1 0 ≡ b) × (get_or (set (set (set xs 0 a) 1 b) 2 d) 2 0 ≡ d)
-sized_set xs a b d h =
-    let l1 = length-set xs 0 a in
-    let l2 = length-set (set xs 0 a) 1 b in (
-      get_or-set_other (set (set xs 0 a) 1 b) 2 0 d 0 (λ e. omega arith) ∙ get_or-set_other (set xs 0 a) 1 0 b 0 (λ e. omega arith) ∙ get_or-set_same xs 0 a 0 (omega arith),
-      get_or-set_other (set (set xs 0 a) 1 b) 2 1 d 0 (λ e. omega arith) ∙ get_or-set_same (set xs 0 a) 1 b 0 (omega arith),
-      get_or-set_same (set (set xs 0 a) 1 b) 2 d 0 (omega arith),
-    )

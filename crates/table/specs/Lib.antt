@@ -2,6 +2,7 @@ pub mod Codes
 pub mod Laws
 pub mod Words
 pub mod Walks
+pub mod Grounds
 pub mod Stores
 pub mod Heads
 pub mod Checks

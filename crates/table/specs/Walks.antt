@@ -1,10 +1,10 @@
 -- A walk over the entries of a pattern, row after row, with a window of columns.
-use Rattle.std.specs.Prelude.{◌≡◌, ℕ, suc, ◌+◌, ◌<◌, ◌≤◌, Bool, false, cond, ◌&&◌, List, length, take, Some, None, Option, nat_le, nat_lt, slice_index, slice_index_or}
+use Rattle.std.specs.Prelude.{◌≡◌, ℕ, suc, ◌+◌, ◌<◌, ◌≤◌, Bool, cond, ◌&&◌, List, length, take, Some, None, Option, nat_le, nat_lt, slice_index, slice_index_or}
 use Rattle.pattern.specs.Columns.{among, columns_in}
 use Rattle.pattern.specs.Sparsity.{Sparsity, entries_between, entry_count, row_at, row_count}
 use Rattle.table.specs.Codes.{code, codes}
-use Rattle.table.specs.declared.walk.Batch.{Batch}
-use Rattle.table.specs.declared.walk.Cursor.{Cursor}
+use Rattle.table.specs.declared.batch.Batch.{Batch}
+use Rattle.table.specs.declared.cursor.Cursor.{Cursor}
 
 -- the column of entry q of all entries; the number of columns past the last
 abbrev pub column_of : Sparsity → ℕ → ℕ
@@ -17,11 +17,6 @@ windowed first w c = nat_le first c && nat_lt c (first + w)
 -- the code of entry q, if its column is in the window
 abbrev pub shown : Sparsity → ℕ → ℕ → ℕ → Option ℕ
 shown s first w q = cond (windowed first w (column_of s q)) (Some (slice_index (codes s) q)) None
-
--- the code that was found, or 0
-abbrev pub or_zero : Option ℕ → ℕ
-or_zero (Some x) = x
-or_zero None = 0
 
 -- the entry that a cursor is at
 abbrev pub position : Sparsity → Cursor → ℕ
@@ -39,9 +34,7 @@ Knows s c first window =
     (d : ℕ) → d < length window
     → slice_index window d ≡ cond (among (take c.place (row_at s c.row)) (first + d)) (suc c.row) (code s c.row (first + d))
 
--- a batch of entries from q on: which of them are in the window, and their codes
+-- a batch of entries from q on: the codes of those of the first `count` that are in the window
 abbrev pub Batched : Sparsity → ℕ → ℕ → ℕ → ℕ → Batch → Type 0
 Batched s first w q count b =
-    (k : ℕ) → k < 64
-    → (slice_index_or b.inside k false ≡ (nat_lt k count && windowed first w (column_of s (q + k))))
-    × (slice_index b.codes k ≡ cond (slice_index_or b.inside k false) (slice_index (codes s) (q + k)) 0)
+    (k : ℕ) → k < 64 → slice_index_or b.found k None ≡ cond (nat_lt k count) (shown s first w (q + k)) None

@@ -1,149 +1,114 @@
-ghost use Rattle.std.specs.Prelude.{◌≡◌, ℕ, ◌+◌, ◌*◌, ◌^◌, ◌<◌, ◌≤◌, true, false, length, Ok, Err, MatchBool, ◌≢◌, slice_index, slice_index_or};
+ghost use Rattle.std.specs.Prelude.{◌≡◌, ℕ, ◌+◌, ◌*◌, ◌^◌, ◌<◌, ◌≤◌, length, IfSome, None, Ok, Err, MatchBool, ◌≢◌, slice_index_or};
 ghost use Rattle.pattern.specs.Sparsity.{row_count};
 ghost use Rattle.refusal.specs.declared.Refusal.TheVariants.{Table};
-ghost use Rattle.table.specs.Checks.{AllFound, FoundAt, Standing, WindowFound};
+ghost use Rattle.table.specs.Checks.{AllFound, BatchFound, FoundAt, Standing, WindowFound};
 ghost use Rattle.table.specs.Heads.{Sized, Started};
-ghost use Rattle.table.specs.Stores.{LaidOut};
-ghost use Rattle.table.specs.Words.{IsTable, total_entries, table_words};
+ghost use Rattle.table.specs.Words.{IsTable, table_words};
 
-use super::sizes::{entry_total, layout_of, table_size};
-use super::storing::{batch_size, next_window, word_count};
-use super::walk::{Batch, Cursor, next_batch};
+use super::batch::Batch;
+use super::plan::Plan;
+use super::starts::Starts;
+use super::walk::{WINDOW, Walk};
 use levels::Layout;
 use pattern::Pattern;
 use refusal::Refusal;
 
-/// Whether the first three words are these sizes.
-fn sizes_are(words: &[u64], rows: u32, columns: u32, entries: u32) -> bool
-    requires { 3 ≤ length words.now }
-    ensures { MatchBool result ((slice_index words.now 0 ≡ rows) × (slice_index words.now 1 ≡ columns) × (slice_index words.now 2 ≡ entries)) ((slice_index words.now 0 ≡ rows) × (slice_index words.now 1 ≡ columns) × (slice_index words.now 2 ≡ entries) → ⊥) }
+/// Whether the code of an entry, if it has one, is found at its place.
+fn entry_found(layout: &Layout, words: &[u64], place: usize, code: Option<u32>) -> bool
+    requires { (Standing layout.now words.now) × (IfSome code (λ _. place < layout.now.count)) }
+    ensures { MatchBool result (IfSome code (FoundAt layout.now words.now place)) (IfSome code (FoundAt layout.now words.now place) → ⊥) }
 {
-    words[0] == rows as u64 && words[1] == columns as u64 && words[2] == entries as u64
-}
-
-/// Whether a row starts there.
-fn start_is(words: &[u64], row: u32, start: u32) -> bool
-    requires { 3 + row < length words.now }
-    ensures { MatchBool result (slice_index words.now (3 + row) ≡ start) (slice_index words.now (3 + row) ≢ start) }
-{
-    words[3 + row as usize] == start as u64
-}
-
-/// Whether the sizes are those of a pattern.
-fn sizes_match<P: Pattern>(pattern: &P, words: &[u64]) -> bool
-    requires { 3 ≤ length words.now }
-    ensures { MatchBool result (Sized (P.sparsity pattern.now) words.now) (Sized (P.sparsity pattern.now) words.now → ⊥) }
-{
-    sizes_are(
-        words,
-        pattern.row_count(),
-        pattern.column_count(),
-        entry_total(pattern),
-    )
-}
-
-/// Whether the row starts are those of a pattern.
-fn starts_match<P: Pattern>(pattern: &P, words: &[u64]) -> bool
-    requires { 4 + row_count (P.sparsity pattern.now) ≤ length words.now }
-    ensures { MatchBool result (Started (P.sparsity pattern.now) words.now) (Started (P.sparsity pattern.now) words.now → ⊥) }
-{
-    let mut start = 0;
-    for row in 0..pattern.row_count() + 1 {
-        if !start_is(words, row, start) {
-            return false;
-        }
-        start += pattern.entry_count(row);
-    }
-    true
-}
-
-/// Whether the code of an entry is found at its place, if the entry is in the window.
-fn entry_found(layout: &Layout, words: &[u64], place: usize, inside: bool, code: u32) -> bool
-    requires { (Standing layout.now words.now) × ((inside ≡ true → place < layout.now.count)) }
-    ensures { MatchBool result (inside ≡ true → FoundAt layout.now words.now place code) ((inside ≡ true → FoundAt layout.now words.now place code) → ⊥) }
-{
-    !inside || layout.traces(words, place, code)
+    code.is_none_or(|code| layout.traces(words, place, code))
 }
 
 /// Whether the codes of a batch are found at the places of a word.
 fn batch_found(layout: &Layout, words: &[u64], word: usize, batch: &Batch) -> bool
     requires standing { (Standing layout.now words.now) × (word < 2 ^ 32) }
-    requires within { (k : ℕ) → k < 64 → slice_index_or batch.now.inside k false ≡ true → 64 * word + k < layout.now.count }
-    ensures { MatchBool result ((k : ℕ) → k < 64 → slice_index_or batch.now.inside k false ≡ true → FoundAt layout.now words.now (64 * word + k) (slice_index batch.now.codes k)) (((k : ℕ) → k < 64 → slice_index_or batch.now.inside k false ≡ true → FoundAt layout.now words.now (64 * word + k) (slice_index batch.now.codes k)) → ⊥) }
+    requires within { (k : ℕ) → k < 64 → IfSome (slice_index_or batch.now.found k None) (λ _. 64 * word + k < layout.now.count) }
+    ensures { MatchBool result (BatchFound layout.now words.now word batch.now) (BatchFound layout.now words.now word batch.now → ⊥) }
 {
-    for k in 0..64 {
-        if !entry_found(
-            layout,
-            words,
-            64 * word + k,
-            batch.inside[k],
-            batch.codes[k],
-        ) {
+    for (k, code) in batch.found.iter().enumerate() {
+        if !entry_found(layout, words, 64 * word + k, *code) {
             return false;
         }
     }
     true
 }
 
-/// Whether the codes of the entries whose columns are in the window from column `first` on are found.
-fn window_found<P: Pattern>(
-    pattern: &P,
-    words: &[u64],
-    layout: &Layout,
-    entries: u32,
-    first: u32,
-) -> bool
-    requires laid { LaidOut (P.sparsity pattern.now) layout.now }
-    requires total { entries ≡ total_entries (P.sparsity pattern.now) }
-    requires standing { Standing layout.now words.now }
-    ensures { MatchBool result (WindowFound (P.sparsity pattern.now) first 262144 layout.now words.now) (AllFound (P.sparsity pattern.now) layout.now words.now → ⊥) }
-{
-    let mut window = [0u32; 262144];
-    let mut cursor = Cursor::start(pattern);
-    for word in 0..word_count(entries) {
-        let size = batch_size(entries, word);
-        let batch = next_batch(pattern, &mut cursor, &mut window, first, size);
-        if !batch_found(layout, words, word, &batch) {
-            return false;
-        }
+impl<P: Pattern> Plan<'_, P> {
+    /// Whether the first three words are the sizes.
+    fn sizes_match(&self, words: &[u64]) -> bool
+        requires { 3 ≤ length words.now }
+        ensures { let s = P.sparsity self.now.pattern.now in MatchBool result (Sized s words.now) (Sized s words.now → ⊥) }
+    {
+        words.starts_with(&self.sizes())
     }
-    true
-}
 
-/// Whether the codes of all entries are found.
-fn codes_found<P: Pattern>(pattern: &P, words: &[u64], layout: &Layout, entries: u32) -> bool
-    requires laid { LaidOut (P.sparsity pattern.now) layout.now }
-    requires total { entries ≡ total_entries (P.sparsity pattern.now) }
-    requires standing { Standing layout.now words.now }
-    ensures { MatchBool result (AllFound (P.sparsity pattern.now) layout.now words.now) (AllFound (P.sparsity pattern.now) layout.now words.now → ⊥) }
-{
-    let columns = pattern.column_count();
-    let mut first = 0;
-    while first < columns {
-        if !window_found(pattern, words, layout, entries, first) {
-            return false;
+    /// Whether the row starts come after them.
+    // As it is: filling has the same loop over `Starts`, and writes what this compares.
+    fn starts_match(&self, words: &[u64]) -> bool
+        requires { 4 + row_count (P.sparsity self.now.pattern.now) ≤ length words.now }
+        ensures { let s = P.sparsity self.now.pattern.now in MatchBool result (Started s words.now) (Started s words.now → ⊥) }
+    {
+        for (row, start) in Starts::of(self.pattern) {
+            if words[3 + row as usize] != u64::from(start) {
+                return false;
+            }
         }
-        first = next_window(first);
+        true
     }
-    true
-}
 
-/// Whether memory of the length of a pattern's table is that table.
-fn is_table<P: Pattern>(pattern: &P, words: &[u64]) -> bool
-    requires { length words.now ≡ length (table_words (P.sparsity pattern.now)) }
-    ensures { MatchBool result (words.now ≡ table_words (P.sparsity pattern.now)) (words.now ≢ table_words (P.sparsity pattern.now)) }
-{
-    let layout = layout_of(pattern);
-    if !sizes_match(pattern, words) {
-        return false;
+    /// Whether the words before the levels are those of the table.
+    fn front_matches(&self, words: &[u64]) -> bool
+        requires { 4 + row_count (P.sparsity self.now.pattern.now) ≤ length words.now }
+        ensures { let s = P.sparsity self.now.pattern.now in MatchBool result (Sized s words.now × Started s words.now) (Sized s words.now × Started s words.now → ⊥) }
+    {
+        self.sizes_match(words) && self.starts_match(words)
     }
-    if !starts_match(pattern, words) {
-        return false;
+
+    /// Whether the codes of the entries whose columns are in the window from column `first` on are found.
+    // As it is: filling has the same loop over a `Walk`, and stores what this looks up.
+    fn window_found(&self, words: &[u64], first: u32) -> bool
+        requires { Standing self.now.layout words.now }
+        ensures { let s = P.sparsity self.now.pattern.now in MatchBool result (WindowFound s first WINDOW self.now.layout words.now) (AllFound s self.now.layout words.now → ⊥) }
+    {
+        let mut window = [0; WINDOW];
+        let mut walk = Walk::start(self, &mut window, first);
+        for word in 0..self.word_count() {
+            if !batch_found(&self.layout, words, word, &walk.next_word()) {
+                return false;
+            }
+        }
+        true
     }
-    if !layout.stands(words) {
-        return false;
+
+    /// Whether the codes of all entries are found.
+    fn codes_found(&self, words: &[u64]) -> bool
+        requires { Standing self.now.layout words.now }
+        ensures { let s = P.sparsity self.now.pattern.now in MatchBool result (AllFound s self.now.layout words.now) (AllFound s self.now.layout words.now → ⊥) }
+    {
+        for first in (0..self.pattern.column_count()).step_by(WINDOW) {
+            if !self.window_found(words, first) {
+                return false;
+            }
+        }
+        true
     }
-    codes_found(pattern, words, &layout, entry_total(pattern))
+
+    /// Whether the levels agree with themselves, and have the codes.
+    fn levels_match(&self, words: &[u64]) -> bool
+        ensures { let s = P.sparsity self.now.pattern.now in MatchBool result (Standing self.now.layout words.now × AllFound s self.now.layout words.now) (Standing self.now.layout words.now × AllFound s self.now.layout words.now → ⊥) }
+    {
+        self.layout.stands(words) && self.codes_found(words)
+    }
+
+    /// Whether memory of the table's length is the table.
+    fn is_table(&self, words: &[u64]) -> bool
+        requires { length words.now ≡ length (table_words (P.sparsity self.now.pattern.now)) }
+        ensures { let s = P.sparsity self.now.pattern.now in MatchBool result (words.now ≡ table_words s) (words.now ≢ table_words s) }
+    {
+        self.front_matches(words) && self.levels_match(words)
+    }
 }
 
 /// Checks that memory has the table of a pattern at its front. It stops at the first mismatch, and reads nothing that comes
@@ -151,11 +116,11 @@ fn is_table<P: Pattern>(pattern: &P, words: &[u64]) -> bool
 pub fn check_table<P: Pattern>(pattern: &P, words: &[u64]) -> Result<(), Refusal>
     ensures { elim result [ Ok x ↦ IsTable (P.sparsity pattern.now) words.now | Err reason ↦ (reason ≡ Table) × (IsTable (P.sparsity pattern.now) words.now → ⊥) ] }
 {
-    let need = table_size(pattern);
-    if words.len() < need {
+    let plan = Plan::of(pattern);
+    let Some(table) = words.get(..plan.size()) else {
         return Err(Refusal::Table);
-    }
-    if is_table(pattern, &words[0..need]) {
+    };
+    if plan.is_table(table) {
         Ok(())
     } else {
         Err(Refusal::Table)

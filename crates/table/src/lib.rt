@@ -1,14 +1,19 @@
 //! Counting tables: what a table of a pattern is, how one is filled, and how one is checked.
 #![tactic(auto)]
 
+mod batch;
 mod checking;
+mod cursor;
 mod filling;
 mod opened;
 mod opening;
+mod plan;
 mod sizes;
+mod starts;
 mod storing;
 mod telling;
 mod walk;
+mod walking;
 
 ghost use Rattle.table.specs.Laws.{CodeLaw, DistinctLaw};
 

@@ -1,14 +1,13 @@
-use Rattle.std.proofs.Common.{◌+◌, ◌*◌, sym, ◌∙◌, ap₂, arith}
-use Rattle.table.proofs.Wholes.{words_length}
+use Rattle.std.proofs.Common.{◌+◌, ◌*◌, ◌/◌, length, ap, ◌∙◌}
+use Rattle.pattern.specs.Sparsity.{row_count}
+use Rattle.table.specs.Words.{table_words, total_entries}
 use Rattle.table.proofs.sizes.table_size.Goals as goal
 
 pub returns : goal.returns
 returns g c =
-    let s = g.P.Pattern.sparsity c.args.pattern.now in
-    let l = c.layout_of.result in
-    let laid = c.layout_of.ensures.laid in
-    let least = c.layout_of.ensures.least in
+    let bits = c.of.result.layout.bits in
+    let e = ap g.P.Pattern.sparsity c.of.ensures.same in
     record {
-      words = c.end.ensures.value ∙ sym (words_length s l laid);
-      value = (l.bits, (c.end.ensures.long ∙ ap₂ (λ x y. x + l.bits * (2 * y + 2)) (laid.starting ∙ omega arith) laid.worded, least.0, least.1));
+      words = c.size.ensures.words ∙ ap (λ s. length (table_words s)) e;
+      value = (bits, (c.size.ensures.value ∙ ap (λ s. 3 + (row_count s + 1) + bits * (2 * ((total_entries s + 63) / 64) + 2)) e, c.of.ensures.least.0, c.of.ensures.least.1));
     }
