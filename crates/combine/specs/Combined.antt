@@ -7,13 +7,21 @@ use Rattle.cost.specs.Price.{Price, greatest_figure}
 abbrev pub capped : ℕ → ℕ
 capped figure = min figure greatest_figure
 
+-- two costs as one, whose figures are joined
+abbrev pub joined_price : (ℕ → ℕ → ℕ) → Price → Price → Price
+joined_price join p q = record { rows = min p.rows q.rows; figure = λ k a b. join (p.figure k a b) (q.figure k a b) }
+
+-- two figures added
+abbrev pub added : ℕ → ℕ → ℕ
+added m n = capped (m + n)
+
 -- both figures added
 abbrev pub sum_price : Price → Price → Price
-sum_price p q = record { rows = min p.rows q.rows; figure = λ k a b. capped (p.figure k a b + q.figure k a b) }
+sum_price = joined_price added
 
 -- the larger figure
 abbrev pub greater_price : Price → Price → Price
-greater_price p q = record { rows = min p.rows q.rows; figure = λ k a b. max (p.figure k a b) (q.figure k a b) }
+greater_price = joined_price max
 
 -- a factor is at most 1,000,000
 abbrev pub Factor : ℕ → Type 0

@@ -2,9 +2,8 @@
 use Rattle.std.specs.Prelude.{◌≡◌, ℕ, min, cond}
 use Rattle.cost.specs.Price.{Price}
 use Rattle.combine.specs.Combined.{bars}
-use Rattle.combine.specs.Meanings.{sum_of, greater_of, times_of, limit_of}
-use Rattle.combine.specs.declared.sum.Sum.{Sum}
-use Rattle.combine.specs.declared.greater.Greater.{Greater}
+use Rattle.combine.specs.Meanings.{joined_of, times_of, limit_of}
+use Rattle.combine.specs.declared.joined.Joined.{Joined}
 use Rattle.combine.specs.declared.times.Times.{Times}
 use Rattle.combine.specs.declared.limit.Limit.{Limit}
 
@@ -25,16 +24,10 @@ abbrev pub Clipped : {A : Type 0} → ℕ → Put A → Put A
 Clipped rows put x k a b y = put x k (clipped_from rows a b) (clipped_to rows b) y
 
 -- both parts are asked
-abbrev pub sum_put : {A B : Type 0} → (A → Price) → (B → Price) → Put A → Put B → Put (Sum A B)
-sum_put p q put put' x k a b y =
-    Clipped (sum_of p q x).rows put x.first k a b y.first ×
-    Clipped (sum_of p q x).rows put' x.second k a b y.second
-
--- both parts are asked
-abbrev pub greater_put : {A B : Type 0} → (A → Price) → (B → Price) → Put A → Put B → Put (Greater A B)
-greater_put p q put put' x k a b y =
-    Clipped (greater_of p q x).rows put x.first k a b y.first ×
-    Clipped (greater_of p q x).rows put' x.second k a b y.second
+abbrev pub joined_put : {J A B : Type 0} → (ℕ → ℕ → ℕ) → (A → Price) → (B → Price) → Put A → Put B → Put (Joined J A B)
+joined_put join p q put put' x k a b y =
+    let rows = (joined_of join p q x).rows in
+    Clipped rows put x.first k a b y.first × Clipped rows put' x.second k a b y.second
 
 -- the cost is asked, and the factor stays
 abbrev pub times_put : {A : Type 0} → (A → Price) → Put A → Put (Times A)

@@ -2,16 +2,13 @@
 #![tactic(auto)]
 
 mod figures;
-mod greater;
-mod greater_answers;
+mod joined;
+mod joining;
 mod limit;
-mod limit_answers;
-mod sum;
-mod sum_answers;
+mod rows;
 mod times;
-mod times_answers;
 
-pub use greater::Greater;
+pub use joined::{Greater, Joined, Sum, joined_law};
+pub use joining::{Added, Join, Larger};
 pub use limit::Limit;
-pub use sum::Sum;
 pub use times::Times;

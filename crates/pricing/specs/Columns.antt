@@ -1,14 +1,19 @@
 -- The costs that count the columns of a block.
-use Rattle.std.specs.Prelude.{ℕ, ◌+◌, ◌*◌, List}
+use Rattle.std.specs.Prelude.{ℕ, List}
 use Rattle.cost.specs.Price.{Price}
 use Rattle.marks.specs.Nonlocals.{nonlocal_columns}
 use Rattle.pattern.specs.Columns.{columns_and_rows, distinct_columns}
-use Rattle.pattern.specs.Sparsity.{Sparsity, row_count, row_counts}
-use Rattle.pricing.specs.Works.{work}
+use Rattle.pattern.specs.Sparsity.{Sparsity, entries_between, row_count}
+use Rattle.pricing.specs.Counts.{Counts, priced}
 
--- work, and Q for each of the columns that `count` finds for block k over the rows from a up to, not including, b
+-- the rows and the entries of a pattern, and the columns that `count` finds for block k over the rows from a up to, not
+-- including, b
+abbrev pub pattern_counts : Sparsity → (ℕ → ℕ → ℕ → ℕ) → Counts
+pattern_counts s count = record { rows = row_count s; entries = λ a b. entries_between s a b; columns = count }
+
+-- work, and Q for each of those columns
 abbrev pub counted_price : ℕ → ℕ → ℕ → Sparsity → (ℕ → ℕ → ℕ → ℕ) → Price
-counted_price R E Q s count = record { rows = row_count s; figure = λ k a b. work R E (row_counts s) a b + Q * count k a b }
+counted_price R E Q s count = priced R E Q (pattern_counts s count)
 
 -- scanned: the distinct columns of the rows
 abbrev pub scanned_price : ℕ → ℕ → ℕ → Sparsity → Price

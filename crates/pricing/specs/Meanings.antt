@@ -9,10 +9,11 @@ use Rattle.owners.specs.declared.owners.Owners.{Owners}
 use Rattle.stored.specs.Judged.{sparsity_of}
 use Rattle.stored.specs.declared.lists.Stored.{Stored}
 use Rattle.pricing.specs.Columns.{footprint_price, nonlocal_price, scanned_price}
+use Rattle.pricing.specs.Counts.{Counts, priced}
 use Rattle.pricing.specs.Works.{Weight, work_price}
-use Rattle.pricing.specs.declared.footprint.Footprint.{Footprint}
-use Rattle.pricing.specs.declared.nonlocal.Nonlocal.{Nonlocal}
-use Rattle.pricing.specs.declared.scanned.Scanned.{Scanned}
+use Rattle.pricing.specs.declared.footprint.ColumnsAndRows.{ColumnsAndRows}
+use Rattle.pricing.specs.declared.nonlocal.NonlocalColumns.{NonlocalColumns}
+use Rattle.pricing.specs.declared.priced.Priced.{Priced}
 use Rattle.pricing.specs.declared.weights.Weights.{Weights}
 use Rattle.pricing.specs.declared.work.Work.{Work}
 
@@ -25,13 +26,17 @@ abbrev pub Fit : Weights → Type 0
 Fit w = Weight w.row × Weight w.entry × Weight w.column
 
 abbrev pub work_of : {P : Type 0} → (P → Sparsity) → Work P → Price
-work_of sparsity w = work_price w.row_weight w.entry_weight (sparsity w.pattern)
+work_of sparsity w = work_price w.weights.row w.weights.entry (sparsity w.pattern)
 
-abbrev pub scanned_of : {P : Type 0} → (P → Sparsity) → Scanned P → Price
-scanned_of sparsity x = scanned_price x.weights.row x.weights.entry x.weights.column (marked_sparsity sparsity x.marked)
+-- what is counted, priced
+abbrev pub priced_of : {C : Type 0} → (C → Counts) → Priced C → Price
+priced_of counts x = priced x.weights.row x.weights.entry x.weights.column (counts x.counted)
 
-abbrev pub footprint_of : {P : Type 0} → (P → Sparsity) → Footprint P → Price
-footprint_of sparsity x = footprint_price x.weights.row x.weights.entry x.weights.column (marked_sparsity sparsity x.marked)
+abbrev pub scanned_of : {P : Type 0} → (P → Sparsity) → Priced (Marked P) → Price
+scanned_of sparsity x = scanned_price x.weights.row x.weights.entry x.weights.column (marked_sparsity sparsity x.counted)
 
-abbrev pub nonlocal_of : Nonlocal → Price
-nonlocal_of x = nonlocal_price x.weights.row x.weights.entry x.weights.column (marked_sparsity sparsity_of x.marked) (list_of x.owners)
+abbrev pub footprint_of : {P : Type 0} → (P → Sparsity) → Priced (ColumnsAndRows P) → Price
+footprint_of sparsity x = footprint_price x.weights.row x.weights.entry x.weights.column (marked_sparsity sparsity x.counted.marked)
+
+abbrev pub nonlocal_of : Priced NonlocalColumns → Price
+nonlocal_of x = nonlocal_price x.weights.row x.weights.entry x.weights.column (marked_sparsity sparsity_of x.counted.marked) (list_of x.counted.owners)

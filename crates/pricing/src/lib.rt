@@ -2,20 +2,19 @@
 #![tactic(auto)]
 
 mod counted;
-mod counted_answers;
+mod counting;
 mod footprint;
-mod footprint_answers;
 mod nonlocal;
-mod nonlocal_answers;
+mod priced;
 mod scanned;
-mod scanned_answers;
 mod weights;
 mod work;
-mod work_answers;
 
 pub use counted::Counted;
-pub use footprint::Footprint;
-pub use nonlocal::Nonlocal;
+pub use counting::Count;
+pub use footprint::{ColumnsAndRows, Footprint};
+pub use nonlocal::{Nonlocal, NonlocalColumns};
+pub use priced::Priced;
 pub use scanned::Scanned;
 pub use weights::Weights;
 pub use work::Work;
