@@ -1,13 +1,13 @@
 //! The costs that count columns, on the sample matrix.
-use super::bring::{end, marked_sample, stored};
+use super::bring::{checked, end_marked, marked, marked_sample, said_of};
 use cost::Cost;
-use marks::{Marked, Unmarked};
+use marks::Marked;
 use owners::Owners;
 use pricing::{Footprint, Nonlocal, Scanned, Weights};
-use refusal::{Declined, Refusal};
+use refusal::Refusal;
 use std::alloc::Global;
 use std::test::Fail;
-use stored::Stored;
+use stored::{Stored, Unchecked};
 
 /// The figures of a cost for these questions, the second and the last of them about no rows.
 fn figures<C: Cost>(cost: &mut C) -> [u64; 6] {
@@ -21,41 +21,19 @@ fn figures<C: Cost>(cost: &mut C) -> [u64; 6] {
     ]
 }
 
-fn marked(heap: Global) -> Result<Marked<Stored>, Fail> {
-    match marked_sample(heap)? {
-        Some(marked) => Ok(marked),
-        None => Err(Fail::new("the sample matrix was refused")),
-    }
-}
-
 fn scanned(heap: Global, weights: Weights) -> Result<Result<[u64; 6], Refusal>, Fail> {
-    match Scanned::new(marked(heap)?, weights) {
-        Ok(mut cost) => {
-            let said = figures(&mut cost);
-            end(cost.into_marked());
-            Ok(Ok(said))
-        }
-        Err(declined) => {
-            let Declined { reason, brought } = declined;
-            end(brought);
-            Ok(Err(reason))
-        }
-    }
+    let made = Scanned::new(marked_sample(heap)?, weights);
+    let (said, marked) = said_of(made, figures, Scanned::into_marked);
+    end_marked(marked);
+    Ok(said)
 }
 
-fn footprint(heap: Global, weights: Weights) -> Result<Result<[u64; 6], Refusal>, Fail> {
-    match Footprint::new(marked(heap)?, weights) {
-        Ok(mut cost) => {
-            let said = figures(&mut cost);
-            end(cost.into_marked());
-            Ok(Ok(said))
-        }
-        Err(declined) => {
-            let Declined { reason, brought } = declined;
-            end(brought);
-            Ok(Err(reason))
-        }
-    }
+/// The footprint of a pattern, or why it is refused.
+fn footprint(marked: Marked<Stored>, weights: Weights) -> Result<[u64; 6], Refusal> {
+    let made = Footprint::new(marked, weights);
+    let (said, marked) = said_of(made, figures, Footprint::into_marked);
+    end_marked(marked);
+    said
 }
 
 fn nonlocal(
@@ -64,22 +42,11 @@ fn nonlocal(
     weights: Weights,
 ) -> Result<Result<[u64; 6], Refusal>, Fail> {
     let owners = Owners::new(Vec::from_slice(heap, bytes)?);
-    match Nonlocal::new(marked(heap)?, owners, weights) {
-        Ok(mut cost) => {
-            let said = figures(&mut cost);
-            let (marked, owners) = cost.into_parts();
-            end(marked);
-            drop(owners);
-            Ok(Ok(said))
-        }
-        Err(declined) => {
-            let Declined { reason, brought } = declined;
-            let (marked, owners) = brought;
-            end(marked);
-            drop(owners);
-            Ok(Err(reason))
-        }
-    }
+    let made = Nonlocal::new(marked_sample(heap)?, owners, weights);
+    let (said, (marked, owners)) = said_of(made, figures, Nonlocal::into_parts);
+    end_marked(marked);
+    drop(owners);
+    Ok(said)
 }
 
 const SAMPLE: Weights = Weights {
@@ -92,7 +59,10 @@ const SAMPLE: Weights = Weights {
 fn figures_of_sample(rt: HostRuntime) -> Result<(), Fail> {
     let heap = rt.alloc();
     assert_eq!(rt; scanned(heap, SAMPLE)?, Ok([9, 0, 12, 14, 19, 0]));
-    assert_eq!(rt; footprint(heap, SAMPLE)?, Ok([9, 0, 12, 14, 19, 0]));
+    assert_eq!(rt;
+        footprint(marked_sample(heap)?, SAMPLE),
+        Ok([9, 0, 12, 14, 19, 0])
+    );
     assert_eq!(rt;
         nonlocal(heap, &[0, 0, 1, 1], SAMPLE)?,
         Ok([5, 0, 8, 14, 19, 0])
@@ -104,7 +74,7 @@ fn figures_of_sample(rt: HostRuntime) -> Result<(), Fail> {
     Ok(())
 }
 
-/// The weights of the sample but for one.
+/// Weights of a row, an entry and a column.
 fn weights(row: u32, entry: u32, column: u32) -> Weights {
     Weights { row, entry, column }
 }
@@ -121,7 +91,10 @@ fn last_and_first_weights(rt: HostRuntime) -> Result<(), Fail> {
     assert_eq!(rt; scanned(heap, weights(1_000_001, 0, 0))?, price);
     assert_eq!(rt; scanned(heap, weights(0, 1_000_001, 0))?, price);
     assert_eq!(rt; scanned(heap, weights(0, 0, 1_000_001))?, price);
-    assert_eq!(rt; footprint(heap, weights(0, 0, 1_000_001))?, price);
+    assert_eq!(rt;
+        footprint(marked_sample(heap)?, weights(0, 0, 1_000_001)),
+        price
+    );
     assert_eq!(rt;
         nonlocal(heap, &[0, 0, 1, 1], weights(0, 0, 1_000_001))?,
         price
@@ -145,55 +118,17 @@ fn owners_one_short_and_one_long(rt: HostRuntime) -> Result<(), Fail> {
 #[test]
 fn footprint_counts_rows_and_wants_a_square(rt: HostRuntime) -> Result<(), Fail> {
     let heap = rt.alloc();
-    assert_eq!(rt;
-        footprint_of(heap, 3, &[0, 1, 1, 2], &[1, 0])?,
-        Ok([7, 0, 6, 9, 11, 0])
-    );
-    assert_eq!(rt;
-        footprint_of(heap, 4, &[0, 1, 1, 2], &[1, 0])?,
-        Err(Refusal::Price)
-    );
-    assert_eq!(rt;
-        footprint_of(heap, 2, &[0, 1, 1, 2], &[1, 0])?,
-        Err(Refusal::Price)
-    );
+    assert_eq!(rt; footprint_of_corner(heap, 3)?, Ok([7, 0, 6, 9, 11, 0]));
+    assert_eq!(rt; footprint_of_corner(heap, 4)?, Err(Refusal::Price));
+    assert_eq!(rt; footprint_of_corner(heap, 2)?, Err(Refusal::Price));
     Ok(())
 }
 
-/// The footprint of a pattern at the weights of the sample, or why it is refused, with the marks of another pattern.
-fn footprint_of(
-    heap: Global,
-    width: u32,
-    starts: &[u32],
-    columns: &[u32],
-) -> Result<Result<[u64; 6], Refusal>, Fail> {
-    let (other, marks) = marked(heap)?.into_parts();
+/// The footprint of rows 1, none and 0 of so many columns at the weights of the sample, or why it is refused, with the
+/// marks of another pattern.
+fn footprint_of_corner(heap: Global, width: u32) -> Result<Result<[u64; 6], Refusal>, Fail> {
+    let (other, marks) = marked_sample(heap)?.into_parts();
     drop(other.into_unchecked());
-    let Some(pattern) = stored(heap, width, starts, columns)? else {
-        return Err(Fail::new("a pattern was refused"));
-    };
-    match Marked::new(pattern, marks) {
-        Ok(marked) => match Footprint::new(marked, SAMPLE) {
-            Ok(mut cost) => {
-                let said = figures(&mut cost);
-                end(cost.into_marked());
-                Ok(Ok(said))
-            }
-            Err(declined) => {
-                let Declined { reason, brought } = declined;
-                end(brought);
-                Ok(Err(reason))
-            }
-        },
-        Err(unmarked) => {
-            let Unmarked {
-                error: _,
-                pattern,
-                marks,
-            } = unmarked;
-            drop(pattern.into_unchecked());
-            drop(marks);
-            Err(Fail::new("marks that suffice were not used"))
-        }
-    }
+    let pattern = checked(Unchecked::copied(heap, width, &[0, 1, 1, 2], &[1, 0])?)?;
+    Ok(footprint(marked(pattern, marks)?, SAMPLE))
 }

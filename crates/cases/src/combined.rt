@@ -1,61 +1,47 @@
 //! Combinations of costs: at and past 2^60, and of unequal rows.
+use super::bring::{beside, refused, said_of};
 use combine::{Greater, Limit, Sum, Times};
 use cost::Cost;
 use grid::Grid;
 use pricing::Work;
-use refusal::{Declined, Refusal};
+use refusal::Refusal;
 use std::test::Fail;
 
 const MOST: u64 = 1_152_921_504_606_846_976;
 
 /// Work at so much a row, over a grid of one line.
 fn rows(points: u32, weight: u32) -> Result<Work<Grid>, Fail> {
-    match Grid::new(points, 1) {
-        Ok(grid) => match Work::new(grid, weight, 0) {
-            Ok(work) => Ok(work),
-            Err(declined) => {
-                let Declined { reason: _, brought } = declined;
-                let _ = brought.into_sides();
-                Err(Fail::new("a weight was refused"))
-            }
-        },
-        Err(_) => Err(Fail::new("a grid was refused")),
-    }
+    let made = Work::new(Grid::new(points, 1)?, weight, 0);
+    made.map_err(|declined| refused(declined, end_grid))
+}
+
+fn end_grid(grid: Grid) {
+    let _ = grid.into_sides();
 }
 
 fn end(work: Work<Grid>) {
-    let _ = work.into_pattern().into_sides();
+    end_grid(work.into_pattern());
+}
+
+fn end_both((first, second): (Work<Grid>, Work<Grid>)) {
+    end(first);
+    end(second);
+}
+
+fn end_barred(barred: Limit<Work<Grid>, Work<Grid>>) {
+    end_both(barred.into_parts());
 }
 
 /// What one row at a weight comes to, three times over 524,288-fold: the weight times 2^57, at most 2^60.
 fn multiplied(weight: u32) -> Result<u64, Fail> {
-    let once = match Times::new(rows(1, weight)?, 524_288) {
-        Ok(once) => once,
-        Err(declined) => {
-            let Declined { reason: _, brought } = declined;
-            end(brought);
-            return Err(Fail::new("a factor was refused"));
-        }
-    };
-    let twice = match Times::new(once, 524_288) {
-        Ok(twice) => twice,
-        Err(declined) => {
-            let Declined { reason: _, brought } = declined;
-            end(brought.into_cost());
-            return Err(Fail::new("a factor was refused"));
-        }
-    };
-    let mut thrice = match Times::new(twice, 524_288) {
-        Ok(thrice) => thrice,
-        Err(declined) => {
-            let Declined { reason: _, brought } = declined;
-            end(brought.into_cost().into_cost());
-            return Err(Fail::new("a factor was refused"));
-        }
-    };
-    let figure = thrice.figure(3, 0, 1);
-    end(thrice.into_cost().into_cost().into_cost());
-    Ok(figure)
+    let once = Times::new(rows(1, weight)?, 524_288);
+    let once = once.map_err(|declined| refused(declined, end))?;
+    let twice = Times::new(once, 524_288);
+    let twice = twice.map_err(|declined| refused(declined, |once| end(once.into_cost())))?;
+    let thrice = Times::new(twice, 524_288);
+    let (said, twice) = said_of(thrice, |thrice| thrice.figure(3, 0, 1), Times::into_cost);
+    end(twice.into_cost().into_cost());
+    Ok(said?)
 }
 
 #[test]
@@ -66,83 +52,33 @@ fn products_stop(rt: HostRuntime) -> Result<(), Fail> {
     Ok(())
 }
 
+/// What one row at weight 2 comes to, so many times.
+fn times(factor: u32) -> Result<Result<u64, Refusal>, Fail> {
+    let made = Times::new(rows(1, 2)?, factor);
+    let (said, cost) = said_of(made, |times| times.figure(0, 0, 1), Times::into_cost);
+    end(cost);
+    Ok(said)
+}
+
 #[test]
 fn factors(rt: HostRuntime) -> Result<(), Fail> {
-    let largest = match Times::new(rows(1, 2)?, 1_000_000) {
-        Ok(mut times) => {
-            let figure = times.figure(0, 0, 1);
-            end(times.into_cost());
-            figure
-        }
-        Err(declined) => {
-            let Declined { reason: _, brought } = declined;
-            end(brought);
-            0
-        }
-    };
-    let past = match Times::new(rows(1, 2)?, 1_000_001) {
-        Ok(times) => {
-            end(times.into_cost());
-            None
-        }
-        Err(declined) => {
-            let Declined { reason, brought } = declined;
-            end(brought);
-            Some(reason)
-        }
-    };
-    assert_eq!(rt; largest, 2_000_000);
-    assert_eq!(rt; past, Some(Refusal::Price));
+    assert_eq!(rt; times(1_000_000)?, Ok(2_000_000));
+    assert_eq!(rt; times(1_000_001)?, Err(Refusal::Price));
     Ok(())
+}
+
+/// What a cost asks for two rows.
+fn figure<C: Cost>(cost: &mut C) -> u64 {
+    cost.figure(0, 0, 2)
 }
 
 /// The sum, the larger and the limited of two costs of rows, or why they are refused.
 fn combined(first: u32, second: u32, limit: u64) -> Result<Result<[u64; 3], Refusal>, Fail> {
-    let a = rows(first, 3)?;
-    let b = match rows(second, 5) {
-        Ok(b) => b,
-        Err(fail) => {
-            end(a);
-            return Err(fail);
-        }
-    };
-    let (a, b, sum) = match Sum::new(a, b) {
-        Ok(mut both) => {
-            let figure = both.figure(0, 0, 2);
-            let (a, b) = both.into_parts();
-            (a, b, Ok(figure))
-        }
-        Err(declined) => {
-            let Declined { reason, brought } = declined;
-            (brought.0, brought.1, Err(reason))
-        }
-    };
-    let (a, b, larger) = match Greater::new(a, b) {
-        Ok(mut both) => {
-            let figure = both.figure(0, 0, 2);
-            let (a, b) = both.into_parts();
-            (a, b, Ok(figure))
-        }
-        Err(declined) => {
-            let Declined { reason, brought } = declined;
-            (brought.0, brought.1, Err(reason))
-        }
-    };
-    let limited = match Limit::new(a, limit, b) {
-        Ok(mut both) => {
-            let figure = both.figure(0, 0, 2);
-            let (a, b) = both.into_parts();
-            end(a);
-            end(b);
-            Ok(figure)
-        }
-        Err(declined) => {
-            let Declined { reason, brought } = declined;
-            end(brought.0);
-            end(brought.1);
-            Err(reason)
-        }
-    };
+    let (a, b) = beside(rows(first, 3)?, rows(second, 5), end)?;
+    let (sum, (a, b)) = said_of(Sum::new(a, b), figure, Sum::into_parts);
+    let (larger, (a, b)) = said_of(Greater::new(a, b), figure, Greater::into_parts);
+    let (limited, parts) = said_of(Limit::new(a, limit, b), figure, Limit::into_parts);
+    end_both(parts);
     Ok(together(sum, larger, limited))
 }
 
@@ -166,51 +102,14 @@ fn combinations(rt: HostRuntime) -> Result<(), Fail> {
 
 /// What a barred block and a free one at so much a row come to in a sum.
 fn barred_sum(weight: u32) -> Result<u64, Fail> {
-    let measure = rows(2, 1)?;
-    let base = match rows(2, 1) {
-        Ok(base) => base,
-        Err(fail) => {
-            end(measure);
-            return Err(fail);
-        }
-    };
-    let third = match rows(2, weight) {
-        Ok(third) => third,
-        Err(fail) => {
-            end(measure);
-            end(base);
-            return Err(fail);
-        }
-    };
-    match Limit::new(measure, 0, base) {
-        Ok(barred) => match Sum::new(barred, third) {
-            Ok(mut sum) => {
-                let figure = sum.figure(0, 0, 2);
-                let (barred, third) = sum.into_parts();
-                let (measure, base) = barred.into_parts();
-                end(measure);
-                end(base);
-                end(third);
-                Ok(figure)
-            }
-            Err(declined) => {
-                let Declined { reason: _, brought } = declined;
-                let (barred, third) = brought;
-                let (measure, base) = barred.into_parts();
-                end(measure);
-                end(base);
-                end(third);
-                Err(Fail::new("equal rows were refused"))
-            }
-        },
-        Err(declined) => {
-            let Declined { reason: _, brought } = declined;
-            end(brought.0);
-            end(brought.1);
-            end(third);
-            Err(Fail::new("equal rows were refused"))
-        }
-    }
+    let (measure, base) = beside(rows(2, 1)?, rows(2, 1), end)?;
+    let barred = Limit::new(measure, 0, base);
+    let barred = barred.map_err(|declined| refused(declined, end_both))?;
+    let (barred, third) = beside(barred, rows(2, weight), end_barred)?;
+    let (said, (barred, third)) = said_of(Sum::new(barred, third), figure, Sum::into_parts);
+    end_barred(barred);
+    end(third);
+    Ok(said?)
 }
 
 #[test]

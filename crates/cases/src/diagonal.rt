@@ -29,6 +29,7 @@ impl Pattern for Diagonal {
 
     ghost lawful = { λ d. Diagonals.lawful d.size d.few };
 
+    #[tactic(auto, using(crate::specs::DiagonalsLemmas::height_is))]
     fn row_count(&self) -> u32 {
         self.size
     }
@@ -37,17 +38,17 @@ impl Pattern for Diagonal {
         self.size
     }
 
+    #[tactic(auto, using(crate::specs::DiagonalsLemmas::row_is, crate::specs::DiagonalsLemmas::row_past))]
     fn entry_count(&self, row: u32) -> u32 {
-        if row < self.size { 1 } else { 0 }
+        u32::from(row < self.size)
     }
 
+    #[tactic(auto, using(crate::specs::DiagonalsLemmas::row_is, crate::specs::DiagonalsLemmas::row_past))]
     fn column(&self, row: u32, place: u32) -> u32 {
-        if row >= self.size {
-            return self.size;
+        if place < self.entry_count(row) {
+            row
+        } else {
+            self.size
         }
-        if place > 0 {
-            return self.size;
-        }
-        row
     }
 }

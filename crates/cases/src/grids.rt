@@ -1,5 +1,5 @@
 //! Grids against rows written out by hand, and the pattern written by a stranger.
-use super::bring::sides_fault;
+use super::bring::said_of_grid;
 use super::diagonal::Diagonal;
 use grid::Grid;
 use pattern::Pattern;
@@ -9,25 +9,19 @@ use std::test::Fail;
 
 /// A pattern's rows one after another, each ended by the number of columns.
 fn rows_of<P: Pattern>(heap: Global, pattern: &P) -> Result<Vec<u32>, AllocError> {
-    let mut said = Vec::new(heap);
-    for row in 0..pattern.row_count() {
-        for place in 0..pattern.entry_count(row).saturating_add(1) {
-            said.push(pattern.column(row, place))?;
-        }
-    }
-    Ok(said)
+    (0..pattern.row_count())
+        .flat_map(|row| (0..=pattern.entry_count(row)).map(move |place| pattern.column(row, place)))
+        .collect(heap)
+}
+
+/// Why a grid with these sides is refused, if it is.
+fn sides_fault(width: u32, height: u32) -> Option<Refusal> {
+    Grid::new(width, height).map(Grid::into_sides).err()
 }
 
 /// The rows of a grid; none where its sides are refused.
 fn grid_rows(heap: Global, width: u32, height: u32) -> Result<Vec<u32>, AllocError> {
-    match Grid::new(width, height) {
-        Ok(grid) => {
-            let rows = rows_of(heap, &grid);
-            let _ = grid.into_sides();
-            rows
-        }
-        Err(_) => Ok(Vec::new(heap)),
-    }
+    said_of_grid(width, height, |grid| rows_of(heap, grid)).unwrap_or_else(|_| Ok(Vec::new(heap)))
 }
 
 #[test]
@@ -52,43 +46,35 @@ fn wider_grid(rt: HostRuntime) -> Result<(), Fail> {
     Ok(())
 }
 
-/// Whether the entries of each run of rows up to a few past the last are those of its rows, counted one by one.
-fn runs_add_up<P: Pattern>(pattern: &P) -> bool {
-    let past = pattern.row_count().saturating_add(3);
-    let mut right = true;
-    for from in 0..past {
-        let mut entries = 0u32;
-        for to in from..past {
-            right = right
-                && pattern.entries_between(from, to) == entries
-                && pattern.entries_between(to, from) <= entries;
-            entries = entries.saturating_add(pattern.entry_count(to));
+/// Whether the entries of each run of rows from this one up to a few past the last are those of its rows, counted one by
+/// one.
+fn runs_from_add_up<P: Pattern>(pattern: &P, from: u32, past: u32) -> bool {
+    let mut entries = 0u32;
+    for to in from..past {
+        if pattern.entries_between(from, to) != entries
+            || pattern.entries_between(to, from) > entries
+        {
+            return false;
         }
+        entries = entries.saturating_add(pattern.entry_count(to));
     }
-    right
+    true
 }
 
-fn grid_adds_up(width: u32, height: u32) -> bool {
-    match Grid::new(width, height) {
-        Ok(grid) => {
-            let right = runs_add_up(&grid);
-            let _ = grid.into_sides();
-            right
-        }
-        Err(_) => false,
-    }
+/// Whether the entries of each run of rows up to a few past the last are those of its rows.
+fn runs_add_up<P: Pattern>(pattern: &P) -> bool {
+    let past = pattern.row_count().saturating_add(3);
+    (0..past).all(|from| runs_from_add_up(pattern, from, past))
 }
 
 #[test]
 fn runs_of_rows(rt: HostRuntime) -> Result<(), Fail> {
     for width in 1..7 {
         for height in 1..7 {
-            assert!(rt; grid_adds_up(width, height));
+            assert_eq!(rt; said_of_grid(width, height, runs_add_up), Ok(true));
         }
     }
-    let Some(diagonal) = Diagonal::new(9) else {
-        return Err(Fail::new("nine rows were refused"));
-    };
+    let diagonal = Diagonal::new(9).ok_or_else(|| Fail::new("nine rows were refused"))?;
     assert!(rt; runs_add_up(&diagonal));
     Ok(())
 }

@@ -1,30 +1,35 @@
 //! Stored patterns: the sample matrix, the smallest, the limits, and every rule that the check knows.
-use super::bring::{fault, sample, stored};
+use super::bring::{checked, fault, sample};
 use pattern::Pattern;
 use refusal::{Declined, Refusal};
 use std::alloc::{AllocError, Global};
+use std::iter::once;
 use std::test::Fail;
 use stored::{Stored, Unchecked};
 
+/// How many entries a row has, and its columns at places 0 to 3.
+fn row_answers(pattern: &Stored, row: u32) -> [u32; 5] {
+    [
+        pattern.entry_count(row),
+        pattern.column(row, 0),
+        pattern.column(row, 1),
+        pattern.column(row, 2),
+        pattern.column(row, 3),
+    ]
+}
+
 /// The answers of a pattern to all questions about rows 0 to 4, places 0 to 3 and runs of rows.
 fn answers(heap: Global, pattern: &Stored) -> Result<Vec<u32>, AllocError> {
-    let mut said = Vec::new(heap);
-    said.push(pattern.row_count())?;
-    said.push(pattern.column_count())?;
+    let mut said = vec![in heap; pattern.row_count(), pattern.column_count()]?;
     for row in 0..5 {
-        said.push(pattern.entry_count(row))?;
-        for place in 0..4 {
-            said.push(pattern.column(row, place))?;
-        }
+        said.extend_from_slice(&row_answers(pattern, row))?;
     }
     Ok(said)
 }
 
 #[test]
 fn sample_matrix(rt: HostRuntime) -> Result<(), Fail> {
-    let Some(pattern) = sample(rt.alloc())? else {
-        return Err(Fail::new("the sample matrix was refused"));
-    };
+    let pattern = sample(rt.alloc())?;
     let said = answers(rt.alloc(), &pattern);
     let runs = [
         pattern.entries_between(0, 4),
@@ -50,9 +55,7 @@ fn no_rows_and_no_columns(rt: HostRuntime) -> Result<(), Fail> {
     assert_eq!(rt; fault(heap, 3, &[0], &[])?, None);
     assert_eq!(rt; fault(heap, 0, &[0, 0, 0], &[])?, None);
     assert_eq!(rt; fault(heap, 0, &[0, 1], &[0])?, Some(Refusal::Column));
-    let Some(pattern) = stored(heap, 3, &[0], &[])? else {
-        return Err(Fail::new("a pattern with no rows was refused"));
-    };
+    let pattern = checked(Unchecked::copied(heap, 3, &[0], &[])?)?;
     let said = [
         pattern.row_count(),
         pattern.column_count(),
@@ -128,21 +131,15 @@ fn most_rows_and_columns(rt: HostRuntime) -> Result<(), Fail> {
 
 /// The first so many numbers, from 0 again after each million.
 fn many_columns(heap: Global, count: u32) -> Result<Vec<u32>, AllocError> {
-    let mut columns = Vec::new(heap);
-    for i in 0..count {
-        columns.push(i % 1_000_000)?;
-    }
-    Ok(columns)
+    (0..count).map(|i| i % 1_000_000).collect(heap)
 }
 
 /// The starts of so many rows of a million entries, and of one row with the rest of the entries.
 fn million_starts(heap: Global, rows: u32, entries: u32) -> Result<Vec<u32>, AllocError> {
-    let mut starts = Vec::new(heap);
-    for row in 0..rows {
-        starts.push(row.saturating_mul(1_000_000))?;
-    }
-    starts.push(entries)?;
-    Ok(starts)
+    (0..rows)
+        .map(|row| row.saturating_mul(1_000_000))
+        .chain(once(entries))
+        .collect(heap)
 }
 
 #[test]
@@ -166,19 +163,13 @@ fn most_entries(rt: HostRuntime) -> Result<(), Fail> {
 #[test]
 fn refused_lists_come_back(rt: HostRuntime) -> Result<(), Fail> {
     let heap = rt.alloc();
-    match Unchecked::copied(heap, 5, &[0, 2, 3], &[0, 5, 1])?.check() {
-        Ok(pattern) => {
-            drop(pattern.into_unchecked());
-            Err(Fail::new("a column out of range was accepted"))
-        }
-        Err(declined) => {
-            let Declined { reason, brought } = declined;
-            let width = brought.width;
-            let starts = brought.starts.as_slice() == [0u32, 2, 3].as_slice();
-            let columns = brought.columns.as_slice() == [0u32, 5, 1].as_slice();
-            assert_eq!(rt; reason, Refusal::Column);
-            assert!(rt; width == 5 && starts && columns);
-            Ok(())
-        }
-    }
+    let checked = Unchecked::copied(heap, 5, &[0, 2, 3], &[0, 5, 1])?.check();
+    let Err(Declined { reason, brought }) = checked.map(Stored::into_unchecked) else {
+        return Err(Fail::new("a column out of range was accepted"));
+    };
+    let starts = brought.starts.as_slice() == [0u32, 2, 3].as_slice();
+    let columns = brought.columns.as_slice() == [0u32, 5, 1].as_slice();
+    assert_eq!(rt; reason, Refusal::Column);
+    assert!(rt; brought.width == 5 && starts && columns);
+    Ok(())
 }

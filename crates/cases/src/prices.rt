@@ -1,37 +1,30 @@
 //! Work over the sample matrix.
-use super::bring::sample;
+use super::bring::{said_of, sample};
 use cost::Cost;
-use pattern::Pattern;
 use pricing::Work;
-use refusal::{Declined, Refusal};
+use refusal::Refusal;
 use std::alloc::Global;
 use std::test::Fail;
 
+/// The figures of a cost of four rows for these questions, and its rows.
+fn figures<C: Cost>(cost: &mut C) -> [u64; 7] {
+    [
+        cost.figure(0, 0, 4),
+        cost.figure(1, 0, 2),
+        cost.figure(4_294_967_295, 2, 4),
+        cost.figure(0, 3, 3),
+        cost.figure(0, 3, 1),
+        cost.figure(0, 2, 4_294_967_295),
+        u64::from(cost.row_count()),
+    ]
+}
+
 /// The figures that the work over the sample matrix gives to these questions, or why its weights are refused.
 fn work(heap: Global, row: u32, entry: u32) -> Result<Result<[u64; 7], Refusal>, Fail> {
-    let Some(pattern) = sample(heap)? else {
-        return Err(Fail::new("the sample matrix was refused"));
-    };
-    match Work::new(pattern, row, entry) {
-        Ok(mut work) => {
-            let figures = [
-                work.figure(0, 0, 4),
-                work.figure(1, 0, 2),
-                work.figure(4_294_967_295, 2, 4),
-                work.figure(0, 3, 3),
-                work.figure(0, 3, 1),
-                work.figure(0, 2, 4_294_967_295),
-                work.row_count() as u64,
-            ];
-            drop(work.into_pattern().into_unchecked());
-            Ok(Ok(figures))
-        }
-        Err(declined) => {
-            let Declined { reason, brought } = declined;
-            drop(brought.into_unchecked());
-            Ok(Err(reason))
-        }
-    }
+    let made = Work::new(sample(heap)?, row, entry);
+    let (said, pattern) = said_of(made, figures, Work::into_pattern);
+    drop(pattern.into_unchecked());
+    Ok(said)
 }
 
 #[test]

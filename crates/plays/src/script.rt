@@ -1,8 +1,10 @@
 //! A run in one line of numbers: the weights of the rows and the machines, each list after its length, the blocks, the
 //! ceiling, and for each call its tag and its number.
-use anyhow::anyhow;
+use anyhow::{Context, anyhow};
 use search::call::Call;
 use std::alloc::Global;
+use std::num::TryFromIntError;
+use std::slice::Iter;
 
 #[derive(Drop)]
 pub struct Script {
@@ -14,65 +16,70 @@ pub struct Script {
     pub calls: Vec<Call>,
 }
 
-/// Numbers, read one after another.
-#[derive(Drop)]
-struct Numbers {
-    all: Vec<u64>,
-    at: usize,
+/// The next number, as a number of a smaller type.
+fn small<N: TryFrom<u64, Error = TryFromIntError>>(
+    numbers: &mut Iter<'_, u64>,
+) -> anyhow::Result<N> {
+    let number = numbers.next().context("a number is missing")?;
+    Ok(N::try_from(*number)?)
 }
 
-impl Numbers {
-    fn read(heap: Global, line: &str) -> anyhow::Result<Numbers> {
-        let mut all = Vec::new(heap);
-        for word in line.split_whitespace() {
-            all.push(word.parse::<u64>()?)?;
-        }
-        Ok(Numbers { all, at: 0 })
+/// A list of items, after its length.
+fn list<T: Drop, F: Fn(&mut Iter<'_, u64>) -> anyhow::Result<T>>(
+    heap: Global,
+    numbers: &mut Iter<'_, u64>,
+    item: F,
+) -> anyhow::Result<Vec<T>>
+    requires { F.IsAlwaysCallable item }
+{
+    let mut items = Vec::new(heap);
+    for _ in 0..small::<u32>(numbers)? {
+        items.push(item(numbers)?)?;
     }
-
-    fn next(&mut self) -> Option<u64> {
-        let number = self.all.get(self.at).copied();
-        self.at = self.at.saturating_add(1);
-        number
-    }
-
-    fn small(&mut self) -> anyhow::Result<u32> {
-        match self.next() {
-            Some(number) => Ok(u32::try_from(number)?),
-            None => Err(anyhow!("a number is missing")),
-        }
-    }
+    Ok(items)
 }
 
-/// The call with this tag and number.
-fn call(tag: u64, number: u64) -> anyhow::Result<Call> {
-    match tag {
-        5 => Ok(Call::Advance(u32::try_from(number)?)),
-        6 => Ok(Call::Try(number)),
-        7 => Ok(Call::Take(u32::try_from(number)?)),
-        8 => Ok(Call::Tell),
-        _ => Err(anyhow!("an unknown call")),
+/// How long a machine takes to start, and how slow it is.
+fn machine(numbers: &mut Iter<'_, u64>) -> anyhow::Result<(u32, u8)> {
+    Ok((small(numbers)?, small(numbers)?))
+}
+
+/// A call as a line has it: its tag, 5 for an advance, 6 for a try, 7 for a take and 8 for a tell, and its number.
+struct Written<'a>(&'a [u64]);
+
+impl TryFrom<Written<'_>> for Call {
+    type Error = anyhow::Error;
+
+    fn try_from(written: Written<'_>) -> anyhow::Result<Call> {
+        let Written(numbers) = written;
+        match numbers {
+            [5, trials] => Ok(Call::Advance(u32::try_from(*trials)?)),
+            [6, target] => Ok(Call::Try(*target)),
+            [7, places] => Ok(Call::Take(u32::try_from(*places)?)),
+            [8, _] => Ok(Call::Tell),
+            [_, _] => Err(anyhow!("an unknown call")),
+            _ => Err(anyhow!("a call has no number")),
+        }
     }
 }
 
 impl Script {
     pub fn read(heap: Global, line: &str) -> anyhow::Result<Script> {
-        let mut numbers = Numbers::read(heap, line)?;
-        let mut weights = Vec::new(heap);
-        for _ in 0..numbers.small()? {
-            weights.push(numbers.small()?)?;
-        }
-        let mut starts = Vec::new(heap);
-        let mut slowness = Vec::new(heap);
-        for _ in 0..numbers.small()? {
-            starts.push(numbers.small()?)?;
-            slowness.push(u8::try_from(numbers.small()?)?)?;
-        }
-        let blocks = numbers.small()?;
-        let Some(ceiling) = numbers.next() else {
-            return Err(anyhow!("the ceiling is missing"));
-        };
-        let calls = read_calls(heap, &mut numbers)?;
+        let numbers: Vec<u64> = line
+            .split_whitespace()
+            .map(|word| -> anyhow::Result<u64> { Ok(word.parse::<u64>()?) })
+            .try_collect(heap)?;
+        let mut numbers = numbers.iter();
+        let weights = list(heap, &mut numbers, small)?;
+        let machines = list(heap, &mut numbers, machine)?;
+        let (starts, slowness) = machines.into_iter().unzip(heap)?;
+        let blocks = small(&mut numbers)?;
+        let ceiling = *numbers.next().context("the ceiling is missing")?;
+        let calls = numbers
+            .as_slice()
+            .chunks(2)
+            .map(|written| Call::try_from(Written(written)))
+            .try_collect(heap)?;
         Ok(Script {
             weights,
             starts,
@@ -82,18 +89,4 @@ impl Script {
             calls,
         })
     }
-}
-
-fn read_calls(heap: Global, numbers: &mut Numbers) -> anyhow::Result<Vec<Call>> {
-    let mut calls = Vec::new(heap);
-    for _ in 0..u32::MAX {
-        let Some(tag) = numbers.next() else {
-            return Ok(calls);
-        };
-        let Some(number) = numbers.next() else {
-            return Err(anyhow!("a call has no number"));
-        };
-        calls.push(call(tag, number)?)?;
-    }
-    Ok(calls)
 }

@@ -10,21 +10,18 @@ fn machines(heap: Global, rows: usize) -> Result<Machines, Fail> {
     let weights = vec![in heap; 1u32; rows]?;
     let starts = Vec::from_slice(heap, &[0, 3])?;
     let slowness = Vec::from_slice(heap, &[1, 1])?;
-    match Machines::new(weights, starts, slowness) {
-        Some(machines) => Ok(machines),
-        None => Err(Fail::new("too many rows")),
-    }
+    Machines::new(weights, starts, slowness).ok_or_else(|| Fail::new("too many rows"))
 }
 
 /// Why a search is not opened, if it is not.
 fn opening(heap: Global, blocks: u32, ceiling: u64) -> Result<Option<Refusal>, Fail> {
-    match Search::open(machines(heap, 4)?, blocks, ceiling) {
-        Ok(search) => {
-            drop(search.close());
-            Ok(None)
-        }
-        Err(declined) => Ok(Some(declined.reason)),
-    }
+    let opened = Search::open(machines(heap, 4)?, blocks, ceiling).map(Search::close);
+    Ok(opened.err().map(|declined| declined.reason))
+}
+
+/// A search over four rows for two blocks up to 9.
+fn small_search(heap: Global) -> Result<Search<Machines>, Fail> {
+    Search::open(machines(heap, 4)?, 2, 9).map_err(|declined| Fail::from(declined.reason))
 }
 
 const MOST: u64 = 1_152_921_504_606_846_976;
@@ -47,15 +44,11 @@ fn advance_and_try(
     n: u32,
     c: u64,
 ) -> Result<(Option<Refusal>, Option<Refusal>), Fail> {
-    match Search::open(machines(heap, 4)?, 2, 9) {
-        Ok(mut search) => {
-            let advanced = search.advance(n).err();
-            let tried = search.try_at(c).err();
-            drop(search.close());
-            Ok((advanced, tried))
-        }
-        Err(_) => Err(Fail::new("a search was not opened")),
-    }
+    let mut search = small_search(heap)?;
+    let advanced = search.advance(n).err();
+    let tried = search.try_at(c).err();
+    drop(search.close());
+    Ok((advanced, tried))
 }
 
 #[test]
@@ -79,17 +72,12 @@ fn takes(
     places: usize,
 ) -> Result<(Option<Refusal>, Option<Refusal>, Vec<u32>), Fail> {
     let mut out = vec![in heap; 7u32; places]?;
-    match Search::open(machines(heap, 4)?, 2, 9) {
-        Ok(mut search) => {
-            let early = search.take(out.as_mut_slice()).err();
-            let advanced = search.advance(64);
-            let late = search.take(out.as_mut_slice()).err();
-            drop(search.close());
-            let _ = advanced;
-            Ok((early, late, out))
-        }
-        Err(_) => Err(Fail::new("a search was not opened")),
-    }
+    let mut search = small_search(heap)?;
+    let early = search.take(out.as_mut_slice()).err();
+    let _ = search.advance(64);
+    let late = search.take(out.as_mut_slice()).err();
+    drop(search.close());
+    Ok((early, late, out))
 }
 
 #[test]

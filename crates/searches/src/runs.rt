@@ -1,6 +1,7 @@
 //! Small runs, and the number of questions that were really put.
 use super::counting::Counting;
 use machines::Machines;
+use refusal::Declined;
 use search::report::{Report, State};
 use search::search::Search;
 use std::alloc::Global;
@@ -16,29 +17,26 @@ fn settle(
     ceiling: u64,
 ) -> Result<(Report, [u32; 6], u64), Fail> {
     let slowness = vec![in heap; 1u8; starts.len()]?;
-    let Some(cost) = Machines::new(
-        Vec::from_slice(heap, weights)?,
-        Vec::from_slice(heap, starts)?,
-        slowness,
-    ) else {
-        return Err(Fail::new("too many rows"));
-    };
-    match Search::open(Counting { cost, questions: 0 }, blocks, ceiling) {
-        Ok(mut search) => {
-            let _ = search.advance(64);
-            let report = search.tell();
-            let mut out = [9u32; 6];
-            let _ = search.take(&mut out);
-            let Counting { cost, questions } = search.close();
-            drop(cost);
-            Ok((report, out, questions))
-        }
-        Err(declined) => {
-            let Counting { cost, questions: _ } = declined.brought;
-            drop(cost);
-            Err(Fail::new("a search was not opened"))
-        }
-    }
+    let weights = Vec::from_slice(heap, weights)?;
+    let starts = Vec::from_slice(heap, starts)?;
+    let cost = Machines::new(weights, starts, slowness).ok_or_else(|| Fail::new("too many rows"))?;
+    let opened = Search::open(Counting { cost, questions: 0 }, blocks, ceiling);
+    let mut search = opened.map_err(refused)?;
+    let _ = search.advance(64);
+    let report = search.tell();
+    let mut out = [9u32; 6];
+    let _ = search.take(&mut out);
+    let Counting { cost, questions } = search.close();
+    drop(cost);
+    Ok((report, out, questions))
+}
+
+/// Lets the cost of a search that was not opened go.
+fn refused(declined: Declined<Counting<Machines>>) -> Fail {
+    let Declined { reason, brought } = declined;
+    let Counting { cost, questions: _ } = brought;
+    drop(cost);
+    Fail::from(reason)
 }
 
 fn report(state: State, floor: u64, figure: u64, advance_trials: u32, questions: u32) -> Report {
@@ -63,7 +61,7 @@ fn no_rows(rt: HostRuntime) -> Result<(), Fail> {
     assert_eq!(rt; told.state, State::Missing);
     assert_eq!(rt; told.floor, 5);
     assert_eq!(rt; out, [9, 9, 9, 9, 9, 9]);
-    assert_eq!(rt; put, told.questions as u64);
+    assert_eq!(rt; put, u64::from(told.questions));
     Ok(())
 }
 
@@ -77,7 +75,7 @@ fn more_blocks_than_rows(rt: HostRuntime) -> Result<(), Fail> {
         "the fourth block is empty, and takes 7 to start"
     );
     assert_eq!(rt; out, [0, 2, 2, 2, 2, 9]);
-    assert_eq!(rt; put, told.questions as u64);
+    assert_eq!(rt; put, u64::from(told.questions));
     Ok(())
 }
 
@@ -86,11 +84,11 @@ fn least_and_most_ceilings(rt: HostRuntime) -> Result<(), Fail> {
     let heap = rt.alloc();
     let (told, _, put) = settle(heap, &[1, 1], &[0, 0], 2, 0)?;
     assert_eq!(rt; told.state, State::Missing);
-    assert_eq!(rt; put, told.questions as u64);
+    assert_eq!(rt; put, u64::from(told.questions));
     let (told, out, put) = settle(heap, &[3, 1, 2], &[0, 0], 2, 1_152_921_504_606_846_975)?;
     assert_eq!(rt; told.state, State::Settled);
     assert_eq!(rt; told.figure, 3);
     assert_eq!(rt; out, [0, 1, 3, 9, 9, 9]);
-    assert_eq!(rt; put, told.questions as u64);
+    assert_eq!(rt; put, u64::from(told.questions));
     Ok(())
 }

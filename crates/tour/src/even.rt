@@ -6,21 +6,13 @@ pub(crate) fn boundary(rows: u32, blocks: u32, block: u32) -> u32
     requires { (0 < blocks) × (block ≤ blocks) }
     ensures { result ≡ rows * block / blocks }
 {
-    (rows as u64 * block as u64 / blocks as u64) as u32
+    (u64::from(rows) * u64::from(block) / u64::from(blocks)) as u32
 }
 
 /// The first of the greatest figures, by its place, if there is a figure.
 pub fn costliest(figures: &[u64]) -> Option<usize>
     ensures { MatchOption result (length figures.now ≡ 0) (λ i. (i < length figures.now) × ((k : ℕ) → k < length figures.now → slice_index figures.now k ≤ slice_index figures.now i) × ((k : ℕ) → k < i → slice_index figures.now k < slice_index figures.now i)) }
 {
-    if figures.is_empty() {
-        return None;
-    }
-    let mut best = 0;
-    for (i, figure) in figures.iter().enumerate() {
-        if *figure > figures[best] {
-            best = i;
-        }
-    }
-    Some(best)
+    let greatest = figures.iter().max()?;
+    figures.iter().position(|figure| figure == greatest)
 }

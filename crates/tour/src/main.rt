@@ -4,15 +4,18 @@
 
 mod costs;
 mod even;
+mod sample;
 mod searching;
 mod show;
 
 use costs::walk_costs;
 use grid::Grid;
+use pattern::Pattern;
+use sample::unchecked;
 use searching::walk_searches;
 use show::{show_cut, show_pattern, show_verdict};
 use std::io;
-use stored::Unchecked;
+use stored::{Stored, Unchecked};
 
 /// Says what the check finds wrong with these lists.
 fn try_damaged(
@@ -22,55 +25,49 @@ fn try_damaged(
     columns: &[u32],
 ) -> anyhow::Result<()> {
     let pattern = Unchecked::copied(rt.alloc(), 4, starts, columns)?;
-    show_verdict(rt, what, pattern.fault())?;
-    Ok(())
+    Ok(show_verdict(rt, what, pattern.fault())?)
+}
+
+/// Prints a pattern and the prices of its blocks; then the pattern is ended.
+fn walk<P: Pattern, L: Drop, F: FnOnce(P) -> L>(
+    rt: &HostRuntime,
+    name: &str,
+    pattern: P,
+    blocks: u32,
+    end: F,
+) -> io::Result<()>
+    requires { F.IsAlwaysCallable end }
+{
+    let shown = show_pattern(rt, name, &pattern);
+    let (pattern, priced) = show_cut(rt, pattern, blocks);
+    drop(end(pattern));
+    shown?;
+    priced
 }
 
 /// The sample matrix, from its lists to the prices of its blocks.
 fn walk_sample(rt: &HostRuntime) -> anyhow::Result<()> {
-    let sample = Unchecked::copied(rt.alloc(), 4, &[0, 2, 3, 6, 7], &[0, 1, 1, 0, 2, 3, 3])?;
+    let sample = unchecked(rt.alloc())?;
+    let name = "The sample matrix passes the check";
     match sample.check() {
-        Ok(pattern) => {
-            let shown = show_pattern(rt, "The sample matrix passes the check", &pattern);
-            let (pattern, priced) = show_cut(rt, pattern, 2);
-            drop(pattern.into_unchecked());
-            shown?;
-            priced?;
-        }
-        Err(declined) => {
-            show_verdict(rt, "the sample matrix", Some(declined.reason))?;
-        }
+        Ok(pattern) => walk(rt, name, pattern, 2, Stored::into_unchecked)?,
+        Err(declined) => show_verdict(rt, "the sample matrix", Some(declined.reason))?,
     }
     Ok(())
 }
 
 /// A grid, from its sides to the prices of its blocks.
 fn walk_grid(rt: &HostRuntime) -> io::Result<()> {
+    let name = "A grid, 3 wide and 3 high, with no stored columns";
     match Grid::new(3, 3) {
-        Ok(grid) => {
-            let shown = show_pattern(
-                rt,
-                "A grid, 3 wide and 3 high, with no stored columns",
-                &grid,
-            );
-            let (grid, priced) = show_cut(rt, grid, 3);
-            let _ = grid.into_sides();
-            shown?;
-            priced
-        }
+        Ok(grid) => walk(rt, name, grid, 3, Grid::into_sides),
         Err(reason) => show_verdict(rt, "a grid of 3 by 3", Some(reason)),
     }
 }
 
 /// Says whether a grid with these sides is refused.
 fn try_sides(rt: &HostRuntime, what: &str, width: u32, height: u32) -> io::Result<()> {
-    let fault = match Grid::new(width, height) {
-        Ok(grid) => {
-            let _ = grid.into_sides();
-            None
-        }
-        Err(reason) => Some(reason),
-    };
+    let fault = Grid::new(width, height).map(Grid::into_sides).err();
     show_verdict(rt, what, fault)
 }
 

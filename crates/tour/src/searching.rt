@@ -1,30 +1,32 @@
 //! A search over the sample matrix, trial by trial, and two runs that agree.
-use super::costs::{end_marked, scanned};
+use super::sample::{beside, end_scanned, refused, scanned};
 use cost::Cost;
-use pricing::Scanned;
-use refusal::Declined;
 use search::call::Call;
 use search::played::Played;
 use search::report::{Report, State};
-use search::run::compare;
+use search::run::{Planned, compare};
 use search::search::Search;
-use std::io;
-use stored::Stored;
+use std::{fmt, io};
 
-/// Prints where a search stands.
-fn show_report(rt: &HostRuntime, report: Report) -> io::Result<()> {
-    let state = match report.state {
-        State::Open => "open",
-        State::Settled => "settled",
-        State::Missing => "no cut",
-    };
-    let floor = report.floor;
-    let figure = report.figure;
-    let trials = report.advance_trials.saturating_add(report.try_trials);
-    let questions = report.questions;
-    println!(rt;
-        "  {state}: floor {floor}, figure {figure}, {trials} trials, {questions} questions"
-    )
+/// Where a search stands.
+#[derive(Clone, Copy)]
+struct Standing(Report);
+
+impl fmt::Display for Standing {
+    fn fmt<W: fmt::Write>(&self, f: &mut fmt::Formatter<W>) -> fmt::Result {
+        let report = &self.0;
+        let state = match report.state {
+            State::Open => "open",
+            State::Settled => "settled",
+            State::Missing => "no cut",
+        };
+        let trials = report.advance_trials.saturating_add(report.try_trials);
+        write!(
+            f,
+            "{state}: floor {}, figure {}, {trials} trials, {} questions",
+            report.floor, report.figure, report.questions
+        )
+    }
 }
 
 /// Advances a search by one trial after another until it ends, and prints each report.
@@ -32,8 +34,8 @@ fn show_trials<C: Cost>(rt: &HostRuntime, search: &mut Search<C>) -> io::Result<
     for _ in 0..64 {
         match search.advance(1) {
             Ok(report) => {
-                show_report(rt, report)?;
-                if !matches!(report.state, State::Open) {
+                println!(rt; "  {}", Standing(report))?;
+                if report.state != State::Open {
                     return Ok(());
                 }
             }
@@ -59,13 +61,12 @@ fn walk_trials(rt: &HostRuntime) -> anyhow::Result<()> {
         Ok(mut search) => {
             let shown = show_trials(rt, &mut search);
             let stands = show_standing(rt, &mut search);
-            end_marked(search.close().into_marked());
+            end_scanned(search.close());
             shown?;
             Ok(stands?)
         }
         Err(declined) => {
-            let Declined { reason, brought } = declined;
-            end_marked(brought.into_marked());
+            let reason = refused(declined, end_scanned);
             Ok(println!(rt; "  refused, {reason}")?)
         }
     }
@@ -73,8 +74,8 @@ fn walk_trials(rt: &HostRuntime) -> anyhow::Result<()> {
 
 /// Prints whether two runs have settled on the same cut.
 fn show_agreement(rt: &HostRuntime, first: Played, second: Played) -> io::Result<()> {
-    show_report(rt, first.report)?;
-    show_report(rt, second.report)?;
+    println!(rt; "  {}", Standing(first.report))?;
+    println!(rt; "  {}", Standing(second.report))?;
     match (first.cut, second.cut) {
         (Some(one), Some(two)) if one == two => {
             let front = &one[0..3];
@@ -84,22 +85,11 @@ fn show_agreement(rt: &HostRuntime, first: Played, second: Played) -> io::Result
     }
 }
 
-/// Two scanned costs of the sample.
-fn two_scanned(rt: &HostRuntime) -> anyhow::Result<(Scanned<Stored>, Scanned<Stored>)> {
-    let first = scanned(rt.alloc())?;
-    match scanned(rt.alloc()) {
-        Ok(second) => Ok((first, second)),
-        Err(error) => {
-            end_marked(first.into_marked());
-            Err(error)
-        }
-    }
-}
-
 /// Two runs with other calls and another ceiling, over costs of equal figures.
 fn walk_agreement(rt: &HostRuntime) -> anyhow::Result<()> {
     println!(rt; "Two runs, one by advances up to 31, one by tries and advances up to 1,000:")?;
-    let (first, second) = two_scanned(rt)?;
+    let heap = rt.alloc();
+    let (first, second) = beside(scanned(heap)?, scanned(heap), end_scanned)?;
     let calls = [Call::Advance(64)];
     let others = [
         Call::Try(20),
@@ -108,9 +98,19 @@ fn walk_agreement(rt: &HostRuntime) -> anyhow::Result<()> {
         Call::Tell,
         Call::Advance(64),
     ];
-    let (played, first, second) = compare(2, first, 31, &calls, second, 1_000, &others);
-    end_marked(first.into_marked());
-    end_marked(second.into_marked());
+    let low = Planned {
+        cost: first,
+        ceiling: 31,
+        calls: &calls,
+    };
+    let high = Planned {
+        cost: second,
+        ceiling: 1_000,
+        calls: &others,
+    };
+    let (played, first, second) = compare(2, low, high);
+    end_scanned(first);
+    end_scanned(second);
     match played {
         Ok((one, two)) => Ok(show_agreement(rt, one, two)?),
         Err(unopened) => {

@@ -72,10 +72,8 @@ pub fn show_cut<P: Pattern>(rt: &HostRuntime, pattern: P, blocks: u32) -> (P, io
             let shown = show_blocks(rt, &mut work, blocks);
             (work.into_pattern(), shown)
         }
-        Err(declined) => {
-            let Declined { reason, brought } = declined;
-            let shown = show_verdict(rt, "its weights", Some(reason));
-            (brought, shown)
+        Err(Declined { reason, brought }) => {
+            (brought, show_verdict(rt, "its weights", Some(reason)))
         }
     }
 }
