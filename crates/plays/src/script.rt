@@ -6,6 +6,8 @@ use std::alloc::Global;
 use std::num::TryFromIntError;
 use std::slice::Iter;
 
+/// A run as a line has it.
+// As it is: starts and slowness are two lists, since the machines are made of two.
 #[derive(Drop)]
 pub struct Script {
     pub weights: Vec<u32>,
@@ -33,6 +35,7 @@ fn list<T: Drop, F: Fn(&mut Iter<'_, u64>) -> anyhow::Result<T>>(
     requires { F.IsAlwaysCallable item }
 {
     let mut items = Vec::new(heap);
+    // As it is: `map` and `try_collect` got no proof that the item may be read each time.
     for _ in 0..small::<u32>(numbers)? {
         items.push(item(numbers)?)?;
     }

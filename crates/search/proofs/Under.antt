@@ -14,7 +14,7 @@ use Rattle.search.specs.Reports.{report_of}
 use Rattle.search.specs.Runs.{answer_of, last_answer, run_asks, placed, played_of}
 use Rattle.search.specs.Of.{view_of, Follows, Opened}
 use Rattle.search.proofs.Trailing.{trail_none, trail_more}
-use Rattle.search.proofs.Along.{Kept, kept_same, kept_more, kept_by}
+use Rattle.search.proofs.Along.{Kept, kept_more, kept_by}
 
 module _ (p : Price) (K C : ℕ) where
   plays_cons : (x : Call) (xs : List Call) (s : View) → plays p K C (x ∷ xs) s ≡ plays p K C xs (step p K C x s)

@@ -12,7 +12,7 @@ pub enum Call {
 }
 
 /// What a call answers.
-#[derive(Clone, Copy, Debug)]
+#[derive(Clone, Copy, PartialEq, Eq, Debug)]
 pub enum Answer {
     Advanced(Result<Report, Refusal>),
     Tried(Result<(bool, Report), Refusal>),

@@ -48,27 +48,25 @@ fn ask<C: Cost>(cost: &mut C, block: u32, start: u32, row: u32) -> u64
     cost.figure(block, start, row)
 }
 
-/// The furthest row from low to high at which the block from `start` on is granted at c, its figure, and the number of
-/// questions; where none is granted, low and its figure, which is then above c.
+/// The furthest row from `start` to `high` at which the block from `start` on is granted at c, its figure, and the number of
+/// questions; where none is granted, `start` and its figure, which is then above c.
 // As it is: a tuple of row, figure and questions is the form laid down for what a halving gives.
 pub(crate) fn halving<C: Cost>(
     cost: &mut C,
     block: u32,
     start: u32,
-    low: u32,
     high: u32,
     c: u64,
 ) -> (u32, u64, u32)
-    requires from { start ≤ low }
-    requires order { low ≤ high }
+    requires order { start ≤ high }
     requires within { high ≤ (C.price cost.old).rows }
-    ensures exact { result ≡ halved (C.price cost.old) block start low high c }
-    ensures furthest { Furthest (C.price cost.old) block start low high c result.0 result.1 result.2 }
-    ensures enough { Enough (C.price cost.old) block start low high c }
+    ensures exact { result ≡ halved (C.price cost.old) block start start high c }
+    ensures furthest { Furthest (C.price cost.old) block start start high c result.0 result.1 result.2 }
+    ensures enough { Enough (C.price cost.old) block start start high c }
     ensures same { C.price cost.new ≡ C.price cost.old }
-    ensures puts { Trail C.put cost.old (halving_asks (C.price cost.old) block start low high c) cost.new }
+    ensures puts { Trail C.put cost.old (halving_asks (C.price cost.old) block start start high c) cost.new }
 {
-    let mut from = low;
+    let mut from = start;
     let mut past = high + 1;
     let mut granted: u64 = 0;
     let mut refused: u64 = 0;
@@ -86,9 +84,9 @@ pub(crate) fn halving<C: Cost>(
             past = middle;
         }
     }
-    if from > low {
+    if from > start {
         (from - 1, granted, questions)
     } else {
-        (low, refused, questions)
+        (start, refused, questions)
     }
 }

@@ -5,9 +5,10 @@ use refusal::Refusal;
 
 /// What a run has come to: what tell then answers, the standing cut with its boundaries in front, if one stands, and
 /// what the last call answered, if there was one.
-#[derive(Drop)]
+#[derive(PartialEq, Eq, Debug, Drop)]
 pub struct Played {
     pub report: Report,
+    // As it is: places for the most blocks there can be, as a search holds them.
     pub cut: Option<[u32; 1025]>,
     pub last: Option<Answer>,
 }

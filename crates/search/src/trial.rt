@@ -37,7 +37,7 @@ pub(crate) fn trial<C: Cost>(
     let mut questions: u32 = 0;
     // As it is: each boundary is written by its number, since the check knows no element that a `zip` over lent places wrote.
     for k in 0..blocks {
-        let (boundary, figure, put) = halving(cost, k, start, start, end, c);
+        let (boundary, figure, put) = halving(cost, k, start, end, c);
         questions += put;
         if !grants(figure, c) {
             return Err(questions);

@@ -44,6 +44,7 @@ pub fn show_verdict(rt: &HostRuntime, what: &str, fault: Option<Refusal>) -> io:
 fn even_figures<C: Cost>(heap: Global, cost: &mut C, blocks: u32) -> Result<Vec<u64>, AllocError> {
     let rows = cost.row_count();
     let mut figures = Vec::new(heap);
+    // As it is: in a closure of `map` it got no proof that the block after this one is no more than there are.
     for block in 0..blocks {
         let from = boundary(rows, blocks, block);
         let to = boundary(rows, blocks, block + 1);

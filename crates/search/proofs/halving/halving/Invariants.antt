@@ -10,9 +10,9 @@ abbrev pub invariant-loop-from : goal.invariant-loop-from
 invariant-loop-from g l =
     let p = g.C.Cost.price l.initial.cost in
     (g.C.Cost.price l.cost ≡ p)
-    × Going p l.block l.start l.low l.high l.c l.from l.past l.questions
-    × Figures p l.block l.start l.low l.high l.from l.past l.granted l.refused
-    × ((z : _) → Trail g.C.Cost.put l.cost (halves p l.block l.start l.c (digits (l.high + 1) - l.questions) l.from l.past) z → Trail g.C.Cost.put l.initial.cost (halving_asks p l.block l.start l.low l.high l.c) z)
+    × Going p l.block l.start l.start l.high l.c l.from l.past l.questions
+    × Figures p l.block l.start l.start l.high l.from l.past l.granted l.refused
+    × ((z : _) → Trail g.C.Cost.put l.cost (halves p l.block l.start l.c (digits (l.high + 1) - l.questions) l.from l.past) z → Trail g.C.Cost.put l.initial.cost (halving_asks p l.block l.start l.start l.high l.c) z)
 
 abbrev pub decreases-loop-from : goal.decreases-loop-from
 decreases-loop-from g l = l.past - l.from
