@@ -57,7 +57,11 @@ pub fn end_marked(marked: Marked<Stored>) {
 }
 
 /// What is said of the grid with these sides, or why they are refused.
-pub fn said_of_grid<T, F: FnOnce(&Grid) -> T>(width: u32, height: u32, say: F) -> Result<T, Refusal>
+pub(crate) fn said_of_grid<T, F: FnOnce(&Grid) -> T>(
+    width: u32,
+    height: u32,
+    say: F,
+) -> Result<T, Refusal>
     requires { F.IsAlwaysCallable say }
 {
     let grid = Grid::new(width, height)?;
@@ -67,7 +71,7 @@ pub fn said_of_grid<T, F: FnOnce(&Grid) -> T>(width: u32, height: u32, say: F) -
 }
 
 /// What is said of a cost, or why it was declined; and what was brought to make it.
-pub fn said_of<C, B, T, F: FnOnce(&mut C) -> T, G: FnOnce(C) -> B>(
+pub(crate) fn said_of<C, B, T, F: FnOnce(&mut C) -> T, G: FnOnce(C) -> B>(
     made: Result<C, Declined<B>>,
     say: F,
     into_parts: G,
@@ -85,7 +89,7 @@ pub fn said_of<C, B, T, F: FnOnce(&mut C) -> T, G: FnOnce(C) -> B>(
 }
 
 /// Lets go what was brought to a call that declined it, as a failure.
-pub fn refused<B, F: FnOnce(B)>(declined: Declined<B>, end: F) -> Fail
+pub(crate) fn refused<B, F: FnOnce(B)>(declined: Declined<B>, end: F) -> Fail
     requires { F.IsAlwaysCallable end }
 {
     let Declined { reason, brought } = declined;
@@ -94,7 +98,11 @@ pub fn refused<B, F: FnOnce(B)>(declined: Declined<B>, end: F) -> Fail
 }
 
 /// Two values, or the failure to make the second; then the first is let go.
-pub fn beside<A, B, F: FnOnce(A)>(first: A, second: Result<B, Fail>, end: F) -> Result<(A, B), Fail>
+pub(crate) fn beside<A, B, F: FnOnce(A)>(
+    first: A,
+    second: Result<B, Fail>,
+    end: F,
+) -> Result<(A, B), Fail>
     requires { F.IsAlwaysCallable end }
 {
     match second {

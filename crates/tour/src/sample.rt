@@ -61,7 +61,7 @@ pub fn end_scanned(scanned: Scanned<Stored>) {
 }
 
 /// Why a call was declined; what was brought to it is ended.
-pub fn refused<B, F: FnOnce(B)>(declined: Declined<B>, end: F) -> Refusal
+pub(crate) fn refused<B, F: FnOnce(B)>(declined: Declined<B>, end: F) -> Refusal
     requires { F.IsAlwaysCallable end }
     ensures { result ≡ declined.reason }
 {
@@ -71,7 +71,7 @@ pub fn refused<B, F: FnOnce(B)>(declined: Declined<B>, end: F) -> Refusal
 }
 
 /// Two values, or why there is no second; then the first is ended.
-pub fn beside<A, B, F: FnOnce(A)>(
+pub(crate) fn beside<A, B, F: FnOnce(A)>(
     first: A,
     second: anyhow::Result<B>,
     end: F,
