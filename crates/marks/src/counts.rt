@@ -1,4 +1,4 @@
-ghost use Rattle.std.specs.Prelude.{◌≡◌, ℕ, ◌<◌, ◌≤◌, Bool, true, not, ◌&&◌, ◌||◌, ◌==◌, nat_lt};
+ghost use Rattle.std.specs.Prelude.{◌≡◌, ℕ, ◌+◌, ◌<◌, ◌≤◌, Bool, true, not, ◌&&◌, ◌||◌, ◌==◌, nat_lt};
 ghost use Rattle.marks.specs.Counts.{Counted};
 ghost use Rattle.marks.specs.Meanings.{SamePattern, marked_sparsity};
 ghost use Rattle.marks.specs.Seen.{covered, seen};
@@ -47,6 +47,14 @@ impl<P: Pattern> RowCount<P> for EachColumn {
     }
 }
 
+/// A count and what it went on with, added.
+fn together(first: u32, second: u32) -> u32
+    requires { first + second ≤ 1000000 }
+    ensures { result ≡ first + second }
+{
+    first + second
+}
+
 impl<P: Pattern> Marked<P> {
     /// Marks the columns of the rows from `from` up to, not including, `to`, and says how many of those that the count is
     /// about it had not seen.
@@ -90,6 +98,7 @@ impl<P: Pattern> Marked<P> {
         ensures same { SamePattern self.old self.new }
     {
         self.marks.begin();
-        self.count_numbers(from, to) + self.count_rows(&EachColumn, from, to)
+        let numbers = self.count_numbers(from, to);
+        together(numbers, self.count_rows(&EachColumn, from, to))
     }
 }

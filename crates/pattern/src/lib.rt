@@ -4,6 +4,13 @@
 ghost use Rattle.std.specs.Prelude.{◌≡◌, ℕ};
 ghost use Rattle.pattern.specs.Sparsity.{Lawful, Sparsity, column_at, entries_between, entry_count, row_count};
 
+/// A number counted from 0 on.
+fn from_none(counted: u32) -> u32
+    ensures { result ≡ counted }
+{
+    counted
+}
+
 /// A sparsity pattern, by the questions that can be put to it. No question changes it.
 pub trait Pattern {
     /// Which columns each row has, and how many columns there are.
@@ -30,7 +37,7 @@ pub trait Pattern {
         ensures { result ≡ entries_between (sparsity self.now) from to }
     {
         let end = to.min(self.row_count());
-        (from.min(end)..end).map(|row| self.entry_count(row)).sum()
+        from_none((from.min(end)..end).map(|row| self.entry_count(row)).sum())
     }
 
     /// The sizes are within the limits, and each row's columns rise and are in range.

@@ -42,9 +42,16 @@ fn list<T: Drop, F: Fn(&mut Iter<'_, u64>) -> anyhow::Result<T>>(
     Ok(items)
 }
 
-/// How long a machine takes to start, and how slow it is.
-fn machine(numbers: &mut Iter<'_, u64>) -> anyhow::Result<(u32, u8)> {
-    Ok((small(numbers)?, small(numbers)?))
+/// How long each machine takes to start, and how slow each is, after their number.
+fn machines(heap: Global, numbers: &mut Iter<'_, u64>) -> anyhow::Result<(Vec<u32>, Vec<u8>)> {
+    let mut starts = Vec::new(heap);
+    let mut slowness = Vec::new(heap);
+    // As it is: a list of pairs, taken apart by `unzip`, takes a third more memory for a line of a million machines.
+    for _ in 0..small::<u32>(numbers)? {
+        starts.push(small(numbers)?)?;
+        slowness.push(small(numbers)?)?;
+    }
+    Ok((starts, slowness))
 }
 
 /// A call as a line has it: its tag, 5 for an advance, 6 for a try, 7 for a take and 8 for a tell, and its number.
@@ -74,8 +81,7 @@ impl Script {
             .try_collect(heap)?;
         let mut numbers = numbers.iter();
         let weights = list(heap, &mut numbers, small)?;
-        let machines = list(heap, &mut numbers, machine)?;
-        let (starts, slowness) = machines.into_iter().unzip(heap)?;
+        let (starts, slowness) = machines(heap, &mut numbers)?;
         let blocks = small(&mut numbers)?;
         let ceiling = *numbers.next().context("the ceiling is missing")?;
         let calls = numbers

@@ -2,7 +2,6 @@
 use Rattle.std.proofs.Common.{◌≡◌, ℕ, zero, suc, ◌+◌, ◌-◌, ◌*◌, ◌/◌, ◌^◌, ◌<◌, ◌≤◌, eqb, refl, ap, ◌∙◌, ⊎_elim, arith, pow_mono}
 use native.Mathlib.Nat.{pow-succ'}
 use Rattle.std.proofs.lemmas.Bool.{eqb-true, cond_both, cases_lt}
-use Rattle.std.specs.Int.Count.{count_leading_zeros, leading_unique}
 use Rattle.search.specs.Digits.{HasDigits, digits_in, digits}
 
 pub below_digits_in : (f n : ℕ) → n < 2 ^ f → n < 2 ^ digits_in f n
@@ -62,21 +61,6 @@ digits_in_low (suc f) n h w =
     (λ l. omega (arith, digits_in_low f (n / 2) (omega arith) (omega (arith, pow-succ' 2 f))))
     (cases_lt (n / 2) 1))
 
--- no fewer digits would do, and 0 has none
-pub digits_low : (n : ℕ) → n < 2 ^ 64 → 2 ^ digits n ≤ 2 * n + 1
-unfolding digits
-digits_low n w =
-    ⊎_elim
-    (λ (l : n < 1). let e : 2 ^ digits_in 64 n ≡ 1 = ap (λ d. 2 ^ d) (ap (digits_in 64) (let z : n ≡ 0 = omega arith in z) ∙ none_digits_in 64) in omega arith)
-    (λ l. omega (arith, digits_in_low 64 n (omega arith) w))
-    (cases_lt n 1)
-
--- the digits are what the leading zeros of 64 leave
-pub digits_leading : (n : ℕ) → n < 2 ^ 64 → 64 - count_leading_zeros 64 n ≡ digits n
-digits_leading n fits =
-    let rest : 64 - digits n ≡ count_leading_zeros 64 n = leading_unique 64 n (64 - digits n) (digits n) (omega (arith, digits_le n)) (below_digits n fits) (digits_low n fits) in
-    omega (arith, digits_le n)
-
 pub has_digits : (n : ℕ) → HasDigits n (digits n)
 unfolding digits
 has_digits n h w =
@@ -85,6 +69,10 @@ has_digits n h w =
     let some : 0 < digits_in 64 n = some_digit n (digits_in 64 n) h high in
     let more : 2 ^ digits_in 64 n ≡ 2 * 2 ^ (digits_in 64 n - 1) = pow_more (digits_in 64 n) some in
     (omega arith, high)
+
+pub no_digits : digits 0 ≡ 0
+unfolding digits
+no_digits = none_digits_in 64
 
 -- no fewer digits would do
 pub digits_least : (n d : ℕ) → 0 < n → n < 2 ^ 64 → n < 2 ^ d → digits n ≤ d
@@ -102,3 +90,15 @@ digits_least n d h w l =
 -- a row number has at most 20 digits
 pub digits_rows : (n : ℕ) → n ≤ 1000000 → digits (n + 1) ≤ 20
 digits_rows n h = let l : n + 1 < 2 ^ 20 = omega arith in digits_least (n + 1) 20 (omega arith) (omega arith) l
+
+-- one digit more than those before the highest
+pub digits_above : (n k : ℕ) → 0 < n → n < 2 ^ 64 → 2 ^ k ≤ n → n < 2 * 2 ^ k → k + 1 ≡ digits n
+digits_above n k h w low high =
+    let more : 2 ^ (k + 1) ≡ 2 * 2 ^ k = ap (λ e. 2 ^ e) (omega arith) ∙ pow-succ' 2 k in
+    let most : digits n ≤ k + 1 = digits_least n (k + 1) h w (omega arith) in
+    ⊎_elim
+    (λ (l : k < digits n). omega arith)
+    (λ (l : digits n ≤ k).
+    let up : 2 ^ digits n ≤ 2 ^ k = pow_mono l in
+    absurd (omega (arith, below_digits n w)))
+    (cases_lt k (digits n))

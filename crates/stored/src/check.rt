@@ -1,5 +1,4 @@
 ghost use Rattle.std.specs.Prelude.{◌≡◌, IfOk, Some, None, Ok, Err, MatchBool};
-ghost use Rattle.std.specs.List.Sorted.{IsStrictlyIncreasing};
 ghost use Rattle.pattern.specs.Sparsity.{Ordered, RowOrdered};
 ghost use Rattle.stored.specs.Csr.{Climbing, Framed, Sized};
 ghost use Rattle.stored.specs.Judged.{Holds, JudgedOf, ShapedOf, brought_sparsity, sparsity_of};
@@ -8,18 +7,19 @@ use super::lists::{Stored, Unchecked};
 use refusal::{Declined, Refusal};
 use std::alloc::{AllocError, Global};
 
-/// Whether each column of a row is above the one before it.
-fn row_rises(row: &[u32]) -> bool
-    ensures { MatchBool result (IsStrictlyIncreasing row.now) (IsStrictlyIncreasing row.now → ⊥) }
-{
-    row.is_sorted_by(|before, after| before < after)
-}
-
 /// Whether the columns of one row are in range and rise.
+// As it is: a chain would read each column twice, beside its neighbours, or go on past the first that is out of range.
 fn row_ordered(width: u32, row: &[u32]) -> bool
     ensures { MatchBool result (RowOrdered width row.now) (RowOrdered width row.now → ⊥) }
 {
-    row_rises(row) && row.last().is_none_or(|last| *last < width)
+    let mut least = 0;
+    for column in row {
+        if *column < least || *column >= width {
+            return false;
+        }
+        least = *column + 1;
+    }
+    true
 }
 
 impl Unchecked {

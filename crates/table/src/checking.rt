@@ -1,4 +1,4 @@
-ghost use Rattle.std.specs.Prelude.{◌≡◌, ℕ, ◌+◌, ◌*◌, ◌^◌, ◌<◌, ◌≤◌, length, IfSome, None, Ok, Err, MatchBool, ◌≢◌, slice_index_or};
+ghost use Rattle.std.specs.Prelude.{◌≡◌, ℕ, ◌+◌, ◌*◌, ◌^◌, ◌<◌, ◌≤◌, length, IfSome, None, Ok, Err, MatchBool, ◌≢◌, slice_index, slice_index_or};
 ghost use Rattle.pattern.specs.Sparsity.{row_count};
 ghost use Rattle.refusal.specs.declared.Refusal.TheVariants.{Table};
 ghost use Rattle.table.specs.Checks.{AllFound, BatchFound, FoundAt, Standing, WindowFound};
@@ -35,6 +35,14 @@ fn batch_found(layout: &Layout, words: &[u64], word: usize, batch: &Batch) -> bo
     true
 }
 
+/// Whether a row starts there.
+fn start_is(words: &[u64], row: u32, start: u32) -> bool
+    requires { 3 + row < length words.now }
+    ensures { MatchBool result (slice_index words.now (3 + row) ≡ start) (slice_index words.now (3 + row) ≢ start) }
+{
+    words[3 + row as usize] == u64::from(start)
+}
+
 impl<P: Pattern> Plan<'_, P> {
     /// Whether the first three words are the sizes.
     fn sizes_match(&self, words: &[u64]) -> bool
@@ -51,7 +59,7 @@ impl<P: Pattern> Plan<'_, P> {
         ensures { let s = P.sparsity self.now.pattern.now in MatchBool result (Started s words.now) (Started s words.now → ⊥) }
     {
         for (row, start) in Starts::of(self.pattern) {
-            if words[3 + row as usize] != u64::from(start) {
+            if !start_is(words, row, start) {
                 return false;
             }
         }

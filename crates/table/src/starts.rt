@@ -1,14 +1,17 @@
 ghost use Rattle.std.specs.Prelude.{◌≡◌};
-ghost use Rattle.pattern.specs.Sparsity.{entries_between};
+ghost use Rattle.pattern.specs.Sparsity.{entries_between, row_count};
 
 use pattern::Pattern;
 
 /// Where the rows of a pattern start: each row, and how many entries come before it; past the last row, how many there are.
+/// How many rows there are is asked once, since a pattern's answer may take time.
 #[derive(Drop)]
 pub(crate) struct Starts<'a, P: Pattern> {
     pub(crate) pattern: &'a P,
+    pub(crate) rows: u32,
     pub(crate) row: u32,
     pub(crate) start: u32,
+    ghost all: { rows ≡ row_count (P.sparsity pattern.now) },
     ghost started: { start ≡ entries_between (P.sparsity pattern.now) 0 row },
 }
 
@@ -19,6 +22,7 @@ impl<'a, P: Pattern> Starts<'a, P> {
     {
         Starts {
             pattern,
+            rows: pattern.row_count(),
             row: 0,
             start: 0,
         }
@@ -36,7 +40,7 @@ impl<P: Pattern> Iterator for Starts<'_, P> {
     ghost remaining = { item_count (λ it. starts_from (P.sparsity it.pattern.now) it.row) };
 
     fn next(&mut self) -> Option<(u32, u32)> {
-        if self.row > self.pattern.row_count() {
+        if self.row > self.rows {
             return None;
         }
         let item = (self.row, self.start);

@@ -40,6 +40,13 @@ fn advances_by(n: u32) -> bool
     1 <= n && n <= 64
 }
 
+/// How many trials an advance makes at most, of which so many are asked.
+fn most_trials(asked: u32) -> u32
+    ensures { result ≡ asked }
+{
+    asked
+}
+
 impl<C: Cost> Search<C> {
     /// Why no search is opened with so many blocks and this ceiling, if there is a reason.
     pub fn refusal(blocks: u32, ceiling: u64) -> Option<Refusal>
@@ -187,7 +194,7 @@ impl<C: Cost> Search<C> {
         if !advances_by(n) {
             return Err(Refusal::Count);
         }
-        for _ in 0..n {
+        for _ in 0..most_trials(n) {
             if !self.is_open() {
                 break;
             }

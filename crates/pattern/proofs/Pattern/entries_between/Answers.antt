@@ -17,6 +17,6 @@ sum-requires-clause-fits g c =
 pub returns : goal.returns
 returns g c =
     let s = g.Self.Pattern.sparsity c.args.self.now in
-    sum_from_yields_List c.map.result c.sum.result c.sum.ensures.ran
+    c.from_none.ensures ∙ sum_from_yields_List c.map.result c.sum.result c.sum.ensures.ran
     (YieldsList-from_map _ (entry_count s) (YieldsList-from_range c.min.result c.min-end.result _ c.map.ensures.source refl) c.map.ensures.closure (λ x r q k. search rules))
     ∙ entries_summed s c.args.from c.args.to c.min-end.result c.min.result (omega arith) (omega arith)

@@ -17,4 +17,4 @@ overflow_add-self g c =
 pub invariant_of-self : goal.invariant_of-self
 invariant_of-self g c =
     let it = c.args.self.now in
-    record { started = omega (arith, it.started, entries_next (g.P.Pattern.sparsity it.pattern.now) it.row (omega arith)) }
+    record { all = it.all; started = omega (arith, it.started, entries_next (g.P.Pattern.sparsity it.pattern.now) it.row (omega arith)) }
